@@ -1,0 +1,102 @@
+-- The names of document 01, "Names and their numbers": a name's number is its place in its kind, from 0.
+use mathlib.Core.Bool.{Bool, true, false, _&&_, not}
+use mathlib.Core.List.{List, [], _∷_, _++_, map}
+use Prim.Native.Nat.{ℕ}
+use Prim.Native.Char.{code}
+use Prim.Native.String.{String, [] as nil, _∷_ as _then_}
+use lib.Dec.{leb, ltb}
+use Rattle.names.specs.declared.Kind.{Kind}
+use Rattle.names.specs.declared.Kind.the-variants.{Kex, Key, Certificate, Cipher, Mac, Compression}
+
+abbrev pub bytes : String → List ℕ
+bytes nil = []
+bytes (c then s) = code c ∷ bytes s
+
+unfoldable pub kexNames : List (List ℕ)
+kexNames =
+    bytes "mlkem768x25519-sha256"
+    ∷ bytes "curve25519-sha256"
+    ∷ bytes "curve25519-sha256@libssh.org"
+    ∷ bytes "diffie-hellman-group-exchange-sha256"
+    ∷ bytes "diffie-hellman-group18-sha512"
+    ∷ bytes "diffie-hellman-group17-sha512"
+    ∷ bytes "diffie-hellman-group16-sha512"
+    ∷ bytes "diffie-hellman-group15-sha512"
+    ∷ bytes "diffie-hellman-group14-sha256"
+    ∷ bytes "ext-info-c"
+    ∷ bytes "ext-info-s"
+    ∷ bytes "kex-strict-c-v00@openssh.com"
+    ∷ bytes "kex-strict-s-v00@openssh.com"
+    ∷ []
+
+unfoldable pub keyNames : List (List ℕ)
+keyNames =
+    bytes "ssh-ed25519"
+    ∷ bytes "ecdsa-sha2-nistp256"
+    ∷ bytes "ecdsa-sha2-nistp384"
+    ∷ bytes "ecdsa-sha2-nistp521"
+    ∷ bytes "rsa-sha2-512"
+    ∷ bytes "rsa-sha2-256"
+    ∷ bytes "ssh-rsa"
+    ∷ []
+
+-- "The certificate name is the key name followed by -cert-v01@openssh.com."
+unfoldable pub certificateNames : List (List ℕ)
+unfolding keyNames
+certificateNames = map (λ name. name ++ bytes "-cert-v01@openssh.com") keyNames
+
+unfoldable pub cipherNames : List (List ℕ)
+cipherNames =
+    bytes "clear"
+    ∷ bytes "none"
+    ∷ bytes "aes128-ctr"
+    ∷ bytes "aes192-ctr"
+    ∷ bytes "aes256-ctr"
+    ∷ bytes "aes128-gcm@openssh.com"
+    ∷ bytes "aes256-gcm@openssh.com"
+    ∷ bytes "aes128-cbc"
+    ∷ bytes "aes192-cbc"
+    ∷ bytes "aes256-cbc"
+    ∷ bytes "chacha20-poly1305@openssh.com"
+    ∷ []
+
+-- "The ctr and cbc names need a MAC; the others do not, and of those gcm and chacha20 have built-in integrity."
+unfoldable pub needMac : List Bool
+needMac = false ∷ false ∷ true ∷ true ∷ true ∷ false ∷ false ∷ true ∷ true ∷ true ∷ false ∷ []
+
+unfoldable pub builtIn : List Bool
+builtIn = false ∷ false ∷ false ∷ false ∷ false ∷ true ∷ true ∷ false ∷ false ∷ false ∷ true ∷ []
+
+unfoldable pub macNames : List (List ℕ)
+macNames =
+    bytes "none"
+    ∷ bytes "hmac-sha2-512-etm@openssh.com"
+    ∷ bytes "hmac-sha2-256-etm@openssh.com"
+    ∷ bytes "hmac-sha2-512"
+    ∷ bytes "hmac-sha2-256"
+    ∷ []
+
+unfoldable pub compressionNames : List (List ℕ)
+compressionNames = bytes "none" ∷ []
+
+-- the names of a kind
+unfoldable pub namesOf : Kind → List (List ℕ)
+namesOf Kex = kexNames
+namesOf Key = keyNames
+namesOf Certificate = certificateNames
+namesOf Cipher = cipherNames
+namesOf Mac = macNames
+namesOf Compression = compressionNames
+
+-- The one table that the code has: the kinds one after the other. A name's row is its place there.
+unfoldable pub allNames : List (List ℕ)
+allNames = kexNames ++ keyNames ++ certificateNames ++ cipherNames ++ macNames ++ compressionNames
+
+-- the row at which a kind starts
+unfoldable pub firstRow : Kind → ℕ
+firstRow Kex = 0
+firstRow Key = 13
+firstRow Certificate = 20
+firstRow Cipher = 27
+firstRow Mac = 38
+firstRow Compression = 43

@@ -1,0 +1,73 @@
+-- Name-lists (RFC 4251 section 5), as src/helpers.rs of the Rust reads them (docs/DIFFERENCES.md, C2 to C7).
+use mathlib.Core.Bool.{Bool, true, false, _&&_}
+use mathlib.Core.List.{List, [], _∷_, _++_}
+use Prim.Native.Nat.{ℕ, _+_}
+use lib.Dec.{leb, eqb}
+use lib.ListN.{length, getD, take, drop}
+use Rattle.answer.specs.Answer.{Out, refused, done, guard, pick, _>>=_}
+use Rattle.text.specs.Utf8.{utf8}
+use Rattle.text.specs.Same.{ascii}
+use Rattle.wire.specs.Fields.{At, Run, run, skip}
+
+-- one more byte in front of the first name
+abbrev pub onto : ℕ → List (List ℕ) → List (List ℕ)
+onto c [] = (c ∷ []) ∷ []
+onto c (n ∷ ns) = (c ∷ n) ∷ ns
+
+-- The names of a list: cut at each comma (44). The empty list has no name, and one comma at the very end ends the last
+-- name and starts none (C3).
+unfoldable pub cut : List ℕ → List (List ℕ)
+cut [] = []
+cut (c ∷ s) = pick (eqb c 44) ([] ∷ cut s) (onto c (cut s))
+
+-- Writing: names joined by commas.
+unfoldable pub join : List (List ℕ) → List ℕ
+join [] = []
+join (n ∷ []) = n
+join (n ∷ (m ∷ ns)) = n ++ 44 ∷ join (m ∷ ns)
+
+-- MAX_NAME_LIST_BYTES and MAX_NAME_LIST_ENTRIES of src/helpers.rs. The Rust tests the second before it adds a name, so
+-- 1,025 names pass (C5, C6).
+abbrev pub mostBytes : ℕ
+mostBytes = 16384
+
+abbrev pub mostBefore : ℕ
+mostBefore = 1024
+
+abbrev pub empty : List ℕ → Bool
+empty [] = true
+empty (b ∷ s) = false
+
+-- name by name from the left, n of them judged before: an empty or non-ASCII name is 3, before the count's 2 (C2, C4, C7)
+unfoldable pub judged : ℕ → List (List ℕ) → Out (Unit {0})
+judged n [] = done tt
+judged n (name ∷ names) = do
+  _ ← guard 3 (pick (empty name) false (ascii name))
+  _ ← guard 2 (leb n mostBefore)
+  judged (n + 1) names
+
+-- a name-list: the string, then its length, then UTF-8, then its names (C7)
+unfoldable pub nameList : At → Out (Run × At)
+nameList c = do
+  (t, c′) ← run c
+  _ ← guard 2 (leb (length (t .bytes)) mostBytes)
+  _ ← guard 3 (utf8 (t .bytes))
+  _ ← judged 0 (cut (t .bytes))
+  done (t, c′)
+
+-- how many bytes stand before the first comma, or before the end
+unfoldable pub nameLength : List ℕ → ℕ
+nameLength [] = 0
+nameLength (c ∷ s) = pick (eqb c 44) 0 (nameLength s + 1)
+
+-- The next name of a list, judged or not: nothing at the end and past it, and so after one comma at the very end; at a
+-- comma the empty name; else the bytes up to the next comma or the end. The next cursor stands after that comma.
+pub data Next : Type 0 where
+  none : Next
+  name : Run → At → Next
+
+unfoldable pub nextName : At → Next
+nextName c =
+    pick (empty (c .left)) none
+    (name (record { place = record { start = c .at; len = nameLength (c .left) }; bytes = take (nameLength (c .left)) (c .left) })
+        (skip (nameLength (c .left) + pick (empty (drop (nameLength (c .left)) (c .left))) 0 1) c))
