@@ -1,0 +1,65 @@
+// What the cursor answers: the value with the next cursor, or the refusal. specs/Answers.antt says what each means.
+ghost use mathlib.Core.Path.{_≡_};
+ghost use Rattle.wire.specs.Answers.{whyNoWord, whyNoText};
+
+use answer::{Refusal, refuse};
+
+// How far a reader is in the slice that was lent.
+pub struct Cursor {
+    pub at: usize,
+}
+
+// Where a run of bytes stands in the slice that was lent.
+pub struct Place {
+    pub start: usize,
+    pub len: usize,
+}
+
+pub enum GotByte {
+    Byte(u8, Cursor),
+    Refused(Refusal),
+}
+
+pub enum GotWord {
+    Word(u32, Cursor),
+    Refused(Refusal),
+}
+
+pub enum GotText {
+    Text(Place, Cursor),
+    Refused(Refusal),
+}
+
+// A test of the input that hands nothing back.
+pub enum Checked {
+    Fine,
+    Refused(Refusal),
+}
+
+pub enum NextName {
+    Name(Place, Cursor),
+    NoMore,
+}
+
+// The refusal of an answer that is one, for a reader to hand on; number 0, which refuses nothing, of any other.
+impl GotWord {
+    pub fn why(self) -> Refusal
+        ensures { λ r. ⌜ r ≡ whyNoWord self ⌝ }
+    {
+        match self {
+            GotWord::Word(_, _) => refuse(0),
+            GotWord::Refused(r) => r,
+        }
+    }
+}
+
+impl GotText {
+    pub fn why(self) -> Refusal
+        ensures { λ r. ⌜ r ≡ whyNoText self ⌝ }
+    {
+        match self {
+            GotText::Text(_, _) => refuse(0),
+            GotText::Refused(r) => r,
+        }
+    }
+}
