@@ -1,2 +1,4 @@
 pub mod FieldLaws
 pub mod RunLaws
+pub mod ShowLaws
+pub mod ListLaws
