@@ -1,6 +1,6 @@
 -- Laws of answers that every layer cites. Assumes nothing.
 use mathlib.Core.Path.{_≡_, refl}
-use mathlib.Core.Bool.{Bool, true, false}
+use mathlib.Core.Bool.{Bool, true, false, not, _&&_}
 use Prim.Native.Nat.{ℕ}
 use native.Mathlib.Omega.{arith}
 use Rattle.answer.specs.declared.Refusal.{Refusal}
@@ -29,3 +29,12 @@ un-refused p = cc
 
 pub not-both : {A : Type 0} {a : A} {r : Refusal} → _≡_ {A = Out A} (done a) (refused r) → ⊥
 not-both p = let z : _≡_ {A = ℕ} 0 1 = cc in omega arith
+
+-- an `&&` that holds, taken apart
+pub and-left : (a b : Bool) → (a && b) ≡ true → a ≡ true
+and-left true b h = refl
+and-left false b h = h
+
+pub and-right : (a b : Bool) → (a && b) ≡ true → b ≡ true
+and-right true b h = h
+and-right false b h = cc

@@ -2,3 +2,4 @@ pub mod FieldLaws
 pub mod RunLaws
 pub mod ShowLaws
 pub mod ListLaws
+pub mod CutLaws

@@ -1,5 +1,5 @@
 -- Name-lists (RFC 4251 section 5), as src/helpers.rs of the Rust reads them (docs/DIFFERENCES.md, C2 to C7).
-use mathlib.Core.Bool.{Bool, true, false, _&&_}
+use mathlib.Core.Bool.{Bool, true, false, not, _&&_}
 use mathlib.Core.List.{List, [], _∷_, _++_}
 use Prim.Native.Nat.{ℕ, _+_}
 use lib.Dec.{leb, eqb}
@@ -71,3 +71,15 @@ nextName c =
     pick (empty (c .left)) none
     (name (record { place = record { start = c .at; len = nameLength (c .left) }; bytes = take (nameLength (c .left)) (c .left) })
         (skip (nameLength (c .left) + pick (empty (drop (nameLength (c .left)) (c .left))) 0 1) c))
+
+-- a name that can stand in a list: not empty, and without a comma
+abbrev pub noComma : List ℕ → Bool
+noComma [] = true
+noComma (b ∷ s) = not (eqb b 44) && noComma s
+
+abbrev pub listable : List ℕ → Bool
+listable s = not (empty s) && noComma s
+
+abbrev pub every : {A : Type 0} → (A → Bool) → List A → Bool
+every f [] = true
+every f (x ∷ xs) = f x && every f xs
