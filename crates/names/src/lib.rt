@@ -2,9 +2,13 @@
 
 // "Each kind of number has a type of its own, so a MAC number can't be used as a cipher number."
 pub struct KexId(pub u8);
+
 pub struct KeyId(pub u8);
+
 pub struct CipherId(pub u8);
+
 pub struct MacId(pub u8);
+
 pub struct CompressionId(pub u8);
 
 // Whose table a number counts in. A certificate's number is its key's.

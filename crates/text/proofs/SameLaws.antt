@@ -54,8 +54,8 @@ under m b =
     tests (ltb (max m b) 128) (ltb m 128 && ltb b 128)
     (λ e. let h : max m b < 128 = ltb-true (max m b) 128 e in rw (lt-ltb m 128 (omega arith), lt-ltb b 128 (omega arith)))
     (λ e.
-      let h : m < 128 = ltb-true m 128 (and-left (ltb m 128) (ltb b 128) e) in
-      let k : b < 128 = ltb-true b 128 (and-right (ltb m 128) (ltb b 128) e) in lt-ltb (max m b) 128 (omega arith))
+    let h : m < 128 = ltb-true m 128 (and-left (ltb m 128) (ltb b 128) e) in
+    let k : b < 128 = ltb-true b 128 (and-right (ltb m 128) (ltb b 128) e) in lt-ltb (max m b) 128 (omega arith))
 
 -- the highest byte, at least m, is under 128 just if m is and the text is US-ASCII
 pub highest-ascii : (m : ℕ) (s : List ℕ) → ltb (highest m s) 128 ≡ (ltb m 128 && ascii s)

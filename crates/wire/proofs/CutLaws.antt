@@ -67,5 +67,7 @@ cut-join ([] ∷ []) h = cc
 cut-join ([] ∷ (m ∷ ns)) h = cc
 cut-join ((b ∷ n) ∷ []) h = cut-alone b n (and-left (noComma (b ∷ n)) true h)
 cut-join ((b ∷ n) ∷ (m ∷ ns)) h =
-    rw (cut-comma (b ∷ n) (join (m ∷ ns)) (and-left (noComma (b ∷ n)) (every listable (m ∷ ns)) h),
-      cut-join (m ∷ ns) (and-right (noComma (b ∷ n)) (every listable (m ∷ ns)) h))
+    rw (
+      cut-comma (b ∷ n) (join (m ∷ ns)) (and-left (noComma (b ∷ n)) (every listable (m ∷ ns)) h),
+      cut-join (m ∷ ns) (and-right (noComma (b ∷ n)) (every listable (m ∷ ns)) h),
+    )

@@ -3,3 +3,4 @@ pub mod RunLaws
 pub mod ShowLaws
 pub mod ListLaws
 pub mod CutLaws
+pub mod JudgeLaws

@@ -54,3 +54,7 @@ whyNoWord (NoWord r) = r
 abbrev pub whyNoText : GotText → Refusal
 whyNoText (Text p c) = record { number = 0 }
 whyNoText (NoText r) = r
+
+abbrev pub whyNotFine : Checked → Refusal
+whyNotFine Fine = record { number = 0 }
+whyNotFine (NotFine r) = r

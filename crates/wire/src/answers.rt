@@ -1,8 +1,8 @@
 // What the cursor answers: the value with the next cursor, or the refusal. specs/Answers.antt says what each means.
 ghost use mathlib.Core.Path.{_≡_};
-ghost use Rattle.wire.specs.Answers.{whyNoWord, whyNoText};
-
-use answer::{Refusal, refuse};
+ghost use Rattle.wire.specs.Answers.{whyNoByte, whyNoWord, whyNoText, whyNotFine};
+use answer::Refusal;
+use answer::refuse;
 
 // How far a reader is in the slice that was lent.
 pub struct Cursor {
@@ -42,6 +42,17 @@ pub enum NextName {
 }
 
 // The refusal of an answer that is one, for a reader to hand on; number 0, which refuses nothing, of any other.
+impl GotByte {
+    pub fn why(self) -> Refusal
+        ensures { λ r. ⌜ r ≡ whyNoByte self ⌝ }
+    {
+        match self {
+            GotByte::Byte(_, _) => refuse(0),
+            GotByte::Refused(r) => r,
+        }
+    }
+}
+
 impl GotWord {
     pub fn why(self) -> Refusal
         ensures { λ r. ⌜ r ≡ whyNoWord self ⌝ }
@@ -60,6 +71,17 @@ impl GotText {
         match self {
             GotText::Text(_, _) => refuse(0),
             GotText::Refused(r) => r,
+        }
+    }
+}
+
+impl Checked {
+    pub fn why(self) -> Refusal
+        ensures { λ r. ⌜ r ≡ whyNotFine self ⌝ }
+    {
+        match self {
+            Checked::Fine => refuse(0),
+            Checked::Refused(r) => r,
         }
     }
 }

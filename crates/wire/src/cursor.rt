@@ -4,9 +4,13 @@ ghost use mathlib.Core.Path.{_≡_};
 ghost use lib.ListN.{drop};
 ghost use Rattle.wire.specs.Fields.{here, byte, word, run, string, end, bigEndian};
 ghost use Rattle.wire.specs.Answers.{gotByte, gotWord, gotText, checked};
-
+use crate::answers::Checked;
+use crate::answers::Cursor;
+use crate::answers::GotByte;
+use crate::answers::GotText;
+use crate::answers::GotWord;
+use crate::answers::Place;
 use answer::refuse;
-use crate::answers::{Checked, Cursor, GotByte, GotText, GotWord, Place};
 
 fn big_endian(a: u8, b: u8, c: u8, d: u8) -> u32
     ensures { λ r. ⌜ r ≡ bigEndian a b c d ⌝ }
@@ -59,6 +63,22 @@ impl Cursor {
             return GotText::Refused(refuse(2));
         }
         GotText::Text(Place { start, len }, Cursor { at: start + len })
+    }
+
+    // A string, as the Rust decodes one into a String.
+    pub fn string(self, s: &[u8]) -> GotText
+        ensures { λ r. ⌜ gotText (now (s .entry)) r ≡ string (here (now (s .entry)) (self .at)) ⌝ }
+    {
+        let r = self.run(s);
+        let GotText::Text(p, c) = r else {
+            return r;
+        };
+        let start = p.start;
+        let end = c.at;
+        if text::utf8(&s[start..end]) {
+            return GotText::Text(p, c);
+        }
+        GotText::Refused(refuse(3))
     }
 
     // Nothing is left: `ensure_end` of the Rust. Past the end nothing is left either.

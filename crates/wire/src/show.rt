@@ -1,7 +1,6 @@
 // A place handed back as the part of the caller's slice that it is.
 ghost use mathlib.Core.Path.{_≡_};
 ghost use Rattle.wire.specs.Shown.{shown, numberOf, bytesOf};
-
 use crate::answers::Place;
 
 // `no` is the answer beside the part, since an enum holds no reference: 0 and the part, or 2 and no byte.
