@@ -3,3 +3,4 @@ pub mod SameLaws
 pub mod LoopLaws
 pub mod StateLaws
 pub mod Utf8Laws
+pub mod GrammarLaws
