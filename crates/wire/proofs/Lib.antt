@@ -4,3 +4,5 @@ pub mod ShowLaws
 pub mod ListLaws
 pub mod CutLaws
 pub mod JudgeLaws
+pub mod UniqueLaws
+pub mod BackLaws

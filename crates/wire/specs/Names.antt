@@ -89,6 +89,10 @@ noComma (b ∷ s) = not (eqb b 44) && noComma s
 abbrev pub listable : List ℕ → Bool
 listable s = not (empty s) && noComma s
 
+-- one that the rules of a list take, too
+abbrev pub nameable : List ℕ → Bool
+nameable s = listable s && ascii s
+
 abbrev pub every : {A : Type 0} → (A → Bool) → List A → Bool
 every f [] = true
 every f (x ∷ xs) = f x && every f xs
