@@ -1,8 +1,8 @@
 -- The test `utf8` and the grammar agree. Assumes nothing.
-use mathlib.Core.Bool.{Bool, true, false, _&&_}
+use mathlib.Core.Bool.{Bool, true, false}
 use mathlib.Core.List.{List, [], _∷_, _++_, map, List·Memᴰ, List·Memᴰ·head, List·Memᴰ·tail}
-use mathlib.Core.Path.{_≡_, refl, sym, _∙_, ap}
-use Prim.Native.Nat.{ℕ, _≤_, _<_, _+_, _-_}
+use mathlib.Core.Path.{_≡_, refl, _∙_, ap}
+use Prim.Native.Nat.{ℕ, _≤_, _+_, _-_}
 use native.Mathlib.Omega.{arith}
 use lib.Dec.{leb}
 use borrow.Author.Tests.{leb-true, le-leb}
@@ -48,10 +48,10 @@ begins s m end = refl
 begins s m (byte {r} {row} {b} {c} l h x) = ap (λ (w : Wanted). octets w (c ++ s)) (opens-its-row r row b m l h) ∙ passes s x
 
 -- whatever the grammar yields passes the test
-pub complete : {s : List ℕ} → Octets s → utf8 s ≡ true
+pub utf8-complete : {s : List ℕ} → Octets s → utf8 s ≡ true
 unfolding octets utf8
-complete empty = refl
-complete (char {row} {c} {s} m x o) = begins s m x ∙ complete o
+utf8-complete empty = refl
+utf8-complete (char {row} {c} {s} m x o) = begins s m x ∙ utf8-complete o
 
 -- text in the middle of a character: the rest of the character, and then characters
 data Rest : List Range → List ℕ → Type 0 where
@@ -107,6 +107,6 @@ reads [] (b ∷ s) e = rest end (char-of b s (λ x. reads x s) (opened rows b) r
 reads (r ∷ row) (b ∷ s) e = byte-of b s (λ x. reads x s) r row (within r b) refl e
 
 -- whatever passes the test is made by the grammar
-pub sound : (s : List ℕ) → utf8 s ≡ true → Octets s
+pub utf8-sound : (s : List ℕ) → utf8 s ≡ true → Octets s
 unfolding utf8
-sound s e = none refl (reads [] s e)
+utf8-sound s e = none refl (reads [] s e)

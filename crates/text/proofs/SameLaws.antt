@@ -45,6 +45,10 @@ same-equal (a ∷ s) (b ∷ t) e = cc (eqb-true a b (and-left (eqb a b) (same s 
 pub equal-same : (s t : List ℕ) → s ≡ t → same s t ≡ true
 equal-same s t e = rw (← e) (same-self s)
 
+-- strings that are not the same differ
+pub same-differ : (s t : List ℕ) → same s t ≡ false → s ≡ t → ⊥
+same-differ s t e q = never (cc (equal-same s t q))
+
 -- strings of two lengths are not the same
 pub same-lengths : (s t : List ℕ) → (length s ≡ length t → ⊥) → same s t ≡ false
 unfolding same
