@@ -1,4 +1,7 @@
 // The name tables of document 01, "Names and their numbers".
+use answer::Refusal;
+
+pub mod tables;
 
 // "Each kind of number has a type of its own, so a MAC number can't be used as a cipher number."
 pub struct KexId(pub u8);
@@ -21,4 +24,16 @@ pub enum Kind {
 pub enum Found {
     Number(u8),
     Unknown,
+}
+
+// A name's row, or that no row spells it.
+pub enum Row {
+    At(usize),
+    Nowhere,
+}
+
+// What a column of the table says.
+pub enum Flag {
+    Is(bool),
+    Refused(Refusal),
 }
