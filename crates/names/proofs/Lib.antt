@@ -1,0 +1,4 @@
+pub mod TextLaws
+pub mod ColumnLaws
+pub mod PlaceLaws
+pub mod TableLaws
