@@ -11,10 +11,11 @@ use native.Mathlib.Omega.{arith}
 use lib.Dec.{ltb, leb, leb·suc-suc, leb·suc-zero, leb·zero}
 use lib.ListN.{length, getD, take, drop, length-append}
 use lib.Seq.{take-append-seam, drop-append-seam, drop-cons}
-use borrow.Author.Tests.{le-leb, lt-ltb}
+use borrow.Author.Tests.{le-leb}
 use Rattle.answer.specs.Answer.{Out, refused, done, guard, refuse, _>>=_}
 use Rattle.names.specs.Spelled.{entry, nameAt, rowName}
 use Rattle.names.specs.Lookup.{placeFrom, rowFrom}
+use Rattle.names.proofs.RowLaws.{entry-in}
 
 abbrev pub flat : List (List ℕ) → List ℕ
 flat [] = []
@@ -39,10 +40,6 @@ module _ {A : Type 0} (d : A) where
   pub entry-next : (x : A) (xs : List A) (n : ℕ) → entry d (x ∷ xs) (suc n) ≡ entry d xs n
   unfolding entry _>>=_
   entry-next x xs n = rw (leb·suc-suc (suc n) (length xs))
-
-  pub entry-in : (xs : List A) (n : ℕ) → n < length xs → entry d xs n ≡ done (getD xs n d)
-  unfolding entry _>>=_
-  entry-in xs n h = rw (lt-ltb n (length xs) h)
 
 -- behind any other spellings
 row-after : (before : List ℕ) (names : List (List ℕ)) (n : ℕ)

@@ -1,4 +1,5 @@
 pub mod TextLaws
+pub mod RowLaws
 pub mod ColumnLaws
 pub mod PlaceLaws
 pub mod TableLaws

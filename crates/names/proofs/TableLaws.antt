@@ -57,7 +57,7 @@ plain-at n h = each-at plain allNames (tables-right .rows) n h
 
 -- the names of a kind are its part of the one table
 pub kind-part : (k : Kind) → take (length (namesOf k)) (drop (firstRow k) allNames) ≡ namesOf k
-unfolding namesOf firstRow allNames kexNames keyNames certificateNames cipherNames macNames compressionNames
+unfolding namesOf allNames kexNames keyNames certificateNames cipherNames macNames compressionNames
 kind-part Kex = refl
 kind-part Key = refl
 kind-part Certificate = refl
@@ -65,19 +65,38 @@ kind-part Cipher = refl
 kind-part Mac = refl
 kind-part Compression = refl
 
+abbrev pub countOf : Kind → ℕ
+countOf Kex = 13
+countOf Key = 7
+countOf Certificate = 7
+countOf Cipher = 11
+countOf Mac = 5
+countOf Compression = 1
+
+pub count-kind : (k : Kind) → countOf k ≡ length (namesOf k)
+unfolding namesOf kexNames keyNames certificateNames cipherNames macNames compressionNames
+count-kind Kex = refl
+count-kind Key = refl
+count-kind Certificate = refl
+count-kind Cipher = refl
+count-kind Mac = refl
+count-kind Compression = refl
+
 pub row-count : length allNames ≡ 44
 unfolding allNames kexNames keyNames certificateNames cipherNames macNames compressionNames
 row-count = refl
 
 -- a kind's rows are rows of the table
+rows-in : (k : Kind) → firstRow k + countOf k ≤ 44
+rows-in Kex = lit≤ tt
+rows-in Key = lit≤ tt
+rows-in Certificate = lit≤ tt
+rows-in Cipher = lit≤ tt
+rows-in Mac = lit≤ tt
+rows-in Compression = lit≤ tt
+
 pub kind-rows : (k : Kind) → firstRow k + length (namesOf k) ≤ 44
-unfolding namesOf firstRow kexNames keyNames certificateNames cipherNames macNames compressionNames
-kind-rows Kex = lit≤ tt
-kind-rows Key = lit≤ tt
-kind-rows Certificate = lit≤ tt
-kind-rows Cipher = lit≤ tt
-kind-rows Mac = lit≤ tt
-kind-rows Compression = lit≤ tt
+kind-rows k = rw (← count-kind k) (rows-in k)
 
 pub row-of : (k : Kind) (n : ℕ) → n < length (namesOf k) → getD allNames (firstRow k + n) [] ≡ getD (namesOf k) n []
 row-of k n h =

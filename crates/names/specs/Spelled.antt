@@ -1,5 +1,5 @@
 -- Spelling: a number's name, and names in a list. "A local number outside its table" is 9 (document 01).
-use mathlib.Core.Bool.{Bool, false, _&&_}
+use mathlib.Core.Bool.{Bool, true, false}
 use mathlib.Core.List.{List, [], _∷_}
 use Prim.Native.Nat.{ℕ, _+_}
 use lib.Dec.{ltb, leb}
@@ -33,6 +33,11 @@ rowName spellings starts lengths n = do
   len ← entry 0 lengths n
   _ ← guard 9 (leb (start + len) (length spellings))
   done (take len (drop start spellings))
+
+-- a name is there
+abbrev pub there : Out (List ℕ) → Bool
+there (refused r) = false
+there (done x) = true
 
 -- the names of a list of numbers, each as `name` has it
 unfoldable pub namesBy : (ℕ → Out (List ℕ)) → List ℕ → Out (List (List ℕ))

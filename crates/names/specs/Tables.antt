@@ -105,7 +105,7 @@ unfoldable pub allNames : List (List ℕ)
 allNames = kexNames ++ keyNames ++ certificateNames ++ cipherNames ++ macNames ++ compressionNames
 
 -- the row at which a kind starts
-unfoldable pub firstRow : Kind → ℕ
+abbrev pub firstRow : Kind → ℕ
 firstRow Kex = 0
 firstRow Key = 13
 firstRow Certificate = 20

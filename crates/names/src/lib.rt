@@ -1,6 +1,12 @@
 // The name tables of document 01, "Names and their numbers".
+ghost use mathlib.Core.Path.{_≡_};
+ghost use lib.ListN.{length};
+ghost use Rattle.names.specs.Tables.{namesOf, firstRow};
+ghost use Rattle.names.specs.Spelled.{flag, needsMac, builtInIntegrity};
+
 use answer::Refusal;
 
+pub mod rows;
 pub mod tables;
 
 // "Each kind of number has a type of its own, so a MAC number can't be used as a cipher number."
@@ -36,4 +42,47 @@ pub enum Row {
 pub enum Flag {
     Is(bool),
     Refused(Refusal),
+}
+
+impl Kind {
+    // The row at which the kind's names start.
+    pub fn first_row(self) -> usize
+        ensures { λ r. ⌜ r ≡ firstRow self ⌝ }
+    {
+        match self {
+            Kind::Kex => 0,
+            Kind::Key => 13,
+            Kind::Certificate => 20,
+            Kind::Cipher => 27,
+            Kind::Mac => 38,
+            Kind::Compression => 43,
+        }
+    }
+
+    pub fn count(self) -> usize
+        ensures { λ r. ⌜ r ≡ length (namesOf self) ⌝ }
+    {
+        match self {
+            Kind::Kex => 13,
+            Kind::Key => 7,
+            Kind::Certificate => 7,
+            Kind::Cipher => 11,
+            Kind::Mac => 5,
+            Kind::Compression => 1,
+        }
+    }
+}
+
+impl CipherId {
+    pub fn needs_mac(self) -> Flag
+        ensures { λ r. ⌜ flag r ≡ needsMac (self .0) ⌝ }
+    {
+        rows::flag_at(&tables::NEEDS_MAC, self.0)
+    }
+
+    pub fn built_in_integrity(self) -> Flag
+        ensures { λ r. ⌜ flag r ≡ builtInIntegrity (self .0) ⌝ }
+    {
+        rows::flag_at(&tables::BUILT_IN, self.0)
+    }
 }

@@ -1,0 +1,64 @@
+// Rows of three columns: spellings, where each row starts in them, and how long it is. Every function is total over any
+// three slices, so what lends the constants of `tables` may stand far above, once for many look-ups.
+ghost use mathlib.Core.Path.{_≡_};
+ghost use Prim.Native.Nat.{_≤_};
+ghost use Rattle.wire.specs.Shown.{bytesOf};
+ghost use mathlib.Core.Bool.{false};
+ghost use Rattle.names.specs.Spelled.{rowName, there, entry, flag};
+
+use super::Flag;
+
+fn wide(x: u8) -> usize
+    ensures { λ r. ⌜ (r ≡ x) × (r ≤ 255) ⌝ }
+{
+    x as usize
+}
+
+fn wider(x: u16) -> usize
+    ensures { λ r. ⌜ (r ≡ x) × (r ≤ 65535) ⌝ }
+{
+    x as usize
+}
+
+// The row spells something: it is in both columns, and ends within the spellings.
+fn inside(spellings: &[u8], starts: &[u16], lengths: &[u8], row: usize) -> bool
+    ensures { λ r. ⌜ r ≡ there (rowName (now (spellings .entry)) (now (starts .entry)) (now (lengths .entry)) row) ⌝ }
+{
+    if starts.len() <= row {
+        return false;
+    }
+    if lengths.len() <= row {
+        return false;
+    }
+    let end = wider(starts[row]) + wide(lengths[row]);
+    end <= spellings.len()
+}
+
+// What it spells, which is nothing if it is outside.
+fn spelling<'a, 'b, 'c>(
+    spellings: &'a [u8],
+    starts: &'b [u16],
+    lengths: &'c [u8],
+    row: usize,
+) -> &'a [u8]
+    ensures { λ r. ⌜ now r ≡ bytesOf (rowName (now (spellings .entry)) (now (starts .entry)) (now (lengths .entry)) row) ⌝ }
+{
+    if inside(spellings, starts, lengths, row) {
+        let start = wider(starts[row]);
+        let end = start + wide(lengths[row]);
+        return &spellings[start..end];
+    }
+    &spellings[..0]
+}
+
+// What a column of bools says at a number.
+pub fn flag_at(column: &[bool], number: u8) -> Flag
+    ensures { λ r. ⌜ flag r ≡ entry false (now (column .entry)) number ⌝ }
+{
+    let n = wide(number);
+    if n < column.len() {
+        Flag::Is(column[n])
+    } else {
+        Flag::Refused(answer::refuse(9))
+    }
+}
