@@ -1,3 +1,7 @@
 // Bytes as text: compared, their highest byte, and UTF-8 (RFC 3629).
-pub mod same;
-pub mod utf8;
+mod compare;
+mod octets;
+
+pub use compare::highest;
+pub use compare::same;
+pub use octets::utf8;
