@@ -1,4 +1,3 @@
-pub mod TextLaws
 pub mod RowLaws
 pub mod ColumnLaws
 pub mod PlaceLaws

@@ -12,16 +12,8 @@ use lib.ListN.{length, getD}
 use Rattle.answer.specs.Answer.{pick}
 use Rattle.answer.proofs.Laws.{split}
 use Rattle.text.specs.Same.{same}
+use Rattle.text.proofs.SameLaws.{and-left, and-right, same-self, same-equal}
 use Rattle.names.specs.Lookup.{placeFrom}
-use Rattle.names.proofs.TextLaws.{same-refl, same-eq}
-
-pub and-left : (a b : Bool) → a && b ≡ true → a ≡ true
-and-left true b h = refl
-and-left false b h = h
-
-pub and-right : (a b : Bool) → a && b ≡ true → b ≡ true
-and-right true b h = h
-and-right false b h = cc
 
 -- the test holds of every name
 abbrev pub each : (List ℕ → Bool) → List (List ℕ) → Bool
@@ -60,7 +52,7 @@ not-true false h = refl
 pub place-back : (xs : List (List ℕ)) → distinct xs ≡ true → (i n : ℕ) → n < length xs → placeFrom i (getD xs n []) xs ≡ some (i + n)
 unfolding placeFrom
 place-back [] h i n l = absurd (omega arith)
-place-back (x ∷ xs) h i zero l = rw (same-refl x, add-zero i)
+place-back (x ∷ xs) h i zero l = rw (same-self x, add-zero i)
 place-back (x ∷ xs) h i (suc n) l =
     let others = and-left (each (λ y. not (same x y)) xs) (distinct xs) h in
     let other = not-true (same x (getD xs n [])) (each-at (λ y. not (same x y)) xs others n (le-of-suc-le-suc l)) in
@@ -82,7 +74,7 @@ place-found name [] i m h = let z : _≡_ {A = ℕ} 0 1 = cc in absurd (omega ar
 place-found name (x ∷ xs) i m h =
     split (same x name)
     (λ e. let z : i ≡ m = some-inj i m (rw e at h) in let s : m - i ≡ 0 = omega arith in
-      record { from = omega arith; below = rw s (omega arith); spelt = rw s (same-eq x name e) })
+      record { from = omega arith; below = rw s (omega arith); spelt = rw s (same-equal x name e) })
     (λ e. let s = place-found name xs (i + 1) m (rw e at h) in
       let d : m - i ≡ suc (m - (i + 1)) = omega (arith, s .from) in
       record { from = omega (arith, s .from); below = rw d (omega (arith, s .below)); spelt = rw d (s .spelt) })

@@ -106,3 +106,36 @@ module _ (spellings starts lengths : List ℕ) (n : ℕ) where
 pub ruleset inside-laws = (outside-starts, outside-lengths, ends-inside)
 
 pub ruleset spelling-laws = (inside-starts, inside-lengths, inside-spellings, inside-spelling, outside-spelling)
+
+module _ (w : Out (List ℕ)) (name : List ℕ) (b : Bool) (tested : b ≡ there w) where
+  pub spells-outside : b ≡ false → false ≡ is w name
+  spells-outside h = outside w (sym h ∙ tested)
+    where
+    outside : (v : Out (List ℕ)) → false ≡ there v → false ≡ is v name
+    outside (refused r) e = refl
+    outside (done x) e = absurd (false≢true e)
+
+  pub spells-inside : (x : List ℕ) (r : Bool) → b ≡ true → x ≡ bytesOf w → r ≡ same x name → r ≡ is w name
+  spells-inside x r h e s = s ∙ ap (λ (y : List ℕ). same y name) e ∙ inside w (sym tested ∙ h)
+    where
+    inside : (v : Out (List ℕ)) → there v ≡ true → same (bytesOf v) name ≡ is v name
+    inside (refused q) e = absurd (false≢true e)
+    inside (done y) e = refl
+
+-- the walk over the rows: what is left still gives the answer
+module _ (spellings starts lengths name : List ℕ) (i to : ℕ) (whole : Option ℕ)
+    (left : whole ≡ rowFrom spellings starts lengths name i (to - i)) where
+  pub walk-over : to ≤ i → none ≡ whole
+  unfolding rowFrom
+  walk-over h = let e : to - i ≡ 0 = omega arith in sym (rw e at left)
+
+  module _ (h : i < to) (b : Bool) (tested : b ≡ is (rowName spellings starts lengths i) name) where
+    pub walk-here : b ≡ true → some i ≡ whole
+    unfolding rowFrom
+    walk-here t = let e : to - i ≡ suc (to - (i + 1)) = omega arith in sym (rw (e, ← tested, t) at left)
+
+    pub walk-on : b ≡ false → whole ≡ rowFrom spellings starts lengths name (i + 1) (to - (i + 1))
+    unfolding rowFrom
+    walk-on t = let e : to - i ≡ suc (to - (i + 1)) = omega arith in rw (e, ← tested, t) at left
+
+pub ruleset walk-laws = (walk-over, walk-here, walk-on)

@@ -19,7 +19,7 @@ use Rattle.names.specs.declared.Kind.{Kind}
 use Rattle.names.specs.declared.Kind.the-variants.{Kex, Key, Certificate, Cipher, Mac, Compression}
 use Rattle.names.specs.Tables.{bytes, kexNames, keyNames, certificateNames, cipherNames, macNames, compressionNames, namesOf, allNames, firstRow, needMac, builtIn}
 use Rattle.names.specs.Lookup.{numberOf, placeFrom}
-use Rattle.names.proofs.PlaceLaws.{and-left, and-right, each, each-at, distinct, distinct-front, distinct-back, place-back, place-found}
+use Rattle.names.proofs.PlaceLaws.{each, each-at, distinct, distinct-front, distinct-back, place-back, place-found}
 
 abbrev pub commaFree : List ℕ → Bool
 commaFree [] = true

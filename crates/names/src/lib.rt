@@ -6,8 +6,10 @@ ghost use Rattle.names.specs.Spelled.{flag, needsMac, builtInIntegrity};
 
 use answer::Refusal;
 
-pub mod rows;
+mod rows;
 pub mod tables;
+
+pub use rows::find;
 
 // "Each kind of number has a type of its own, so a MAC number can't be used as a cipher number."
 pub struct KexId(pub u8);

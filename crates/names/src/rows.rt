@@ -1,12 +1,14 @@
 // Rows of three columns: spellings, where each row starts in them, and how long it is. Every function is total over any
 // three slices, so what lends the constants of `tables` may stand far above, once for many look-ups.
 ghost use mathlib.Core.Path.{_≡_};
-ghost use Prim.Native.Nat.{_≤_};
+ghost use Prim.Native.Nat.{_-_, _≤_};
 ghost use Rattle.wire.specs.Shown.{bytesOf};
 ghost use mathlib.Core.Bool.{false};
 ghost use Rattle.names.specs.Spelled.{rowName, there, entry, flag};
+ghost use Rattle.names.specs.Lookup.{rowFrom, is, row};
 
 use super::Flag;
+use super::Row;
 
 fn wide(x: u8) -> usize
     ensures { λ r. ⌜ (r ≡ x) × (r ≤ 255) ⌝ }
@@ -49,6 +51,29 @@ fn spelling<'a, 'b, 'c>(
         return &spellings[start..end];
     }
     &spellings[..0]
+}
+
+fn spells(spellings: &[u8], starts: &[u16], lengths: &[u8], row: usize, name: &[u8]) -> bool
+    ensures { λ r. ⌜ r ≡ is (rowName (now (spellings .entry)) (now (starts .entry)) (now (lengths .entry)) row) (now (name .entry)) ⌝ }
+{
+    if inside(spellings, starts, lengths, row) {
+        return text::same(spelling(spellings, starts, lengths, row), name);
+    }
+    false
+}
+
+// The first row from `from` on, and before `to`, that spells the name.
+pub fn find(spellings: &[u8], starts: &[u16], lengths: &[u8], from: usize, to: usize, name: &[u8]) -> Row
+    ensures { λ r. ⌜ row r ≡ rowFrom (now (spellings .entry)) (now (starts .entry)) (now (lengths .entry)) (now (name .entry)) from (to - from) ⌝ }
+{
+    let mut i = from;
+    while i < to {
+        if spells(spellings, starts, lengths, i, name) {
+            return Row::At(i);
+        }
+        i += 1;
+    }
+    Row::Nowhere
 }
 
 // What a column of bools says at a number.

@@ -14,7 +14,7 @@ inside-requires c κs = search needs
 
 -- src/rows.rt:47:27
 mul-wider : tie.Need-mul-wider
-mul-wider c = search spelling-laws
+mul-wider c = search (needs, spelling-laws)
 
 -- src/rows.rt:47:27
 shared-slice-read-wider : tie.Need-shared-slice-read-wider
