@@ -2,3 +2,4 @@ pub mod RowLaws
 pub mod ColumnLaws
 pub mod PlaceLaws
 pub mod TableLaws
+pub mod LookupLaws

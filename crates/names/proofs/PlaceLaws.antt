@@ -13,7 +13,7 @@ use Rattle.answer.specs.Answer.{pick}
 use Rattle.answer.proofs.Laws.{split}
 use Rattle.text.specs.Same.{same}
 use Rattle.text.proofs.SameLaws.{and-left, and-right, same-self, same-equal}
-use Rattle.names.specs.Lookup.{placeFrom}
+use Rattle.names.specs.Lookup.{placeFrom, onward}
 
 -- the test holds of every name
 abbrev pub each : (List ℕ → Bool) → List (List ℕ) → Bool
@@ -80,10 +80,6 @@ place-found name (x ∷ xs) i m h =
       record { from = omega (arith, s .from); below = rw d (omega (arith, s .below)); spelt = rw d (s .spelt) })
 
 -- places counted from i
-abbrev pub onward : ℕ → Option ℕ → Option ℕ
-onward i none = none
-onward i (some n) = some (i + n)
-
 place-onward : (name : List ℕ) (xs : List (List ℕ)) (i j : ℕ) → placeFrom (i + j) name xs ≡ onward i (placeFrom j name xs)
 unfolding placeFrom
 place-onward name [] i j = refl

@@ -23,6 +23,11 @@ placeFrom n name (m ∷ ms) = pick (same m name) (some n) (placeFrom (n + 1) nam
 unfoldable pub numberOf : Kind → List ℕ → Option ℕ
 numberOf k name = placeFrom 0 name (namesOf k)
 
+-- a number of a kind, counted from its first row on
+abbrev pub onward : ℕ → Option ℕ → Option ℕ
+onward first none = none
+onward first (some n) = some (first + n)
+
 -- a row that is there spells this name
 abbrev pub is : Out (List ℕ) → List ℕ → Bool
 is (refused r) name = false

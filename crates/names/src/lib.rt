@@ -6,9 +6,11 @@ ghost use Rattle.names.specs.Spelled.{flag, needsMac, builtInIntegrity};
 
 use answer::Refusal;
 
+mod numbers;
 mod rows;
 pub mod tables;
 
+pub use numbers::lookup;
 pub use rows::find;
 
 // "Each kind of number has a type of its own, so a MAC number can't be used as a cipher number."
