@@ -1,0 +1,2 @@
+mod CodeLaws
+pub mod PutLaws
