@@ -7,10 +7,12 @@ use native.Mathlib.Omega.{arith}
 use lib.ListN.{length, take, drop}
 use Rattle.names.specs.declared.Kind.{Kind}
 use Rattle.names.specs.Tables.{namesOf, allNames, firstRow}
-use Rattle.names.specs.Lookup.{numberOf, placeFrom, rowFrom, onward}
+use Rattle.names.specs.declared.Row.{Row}
+use Rattle.names.specs.declared.Row.the-variants.{At, Nowhere}
+use Rattle.names.specs.Lookup.{numberOf, placeFrom, rowFrom, onward, row}
 use Rattle.names.proofs.ColumnLaws.{flat, starts, lengths, row-place}
 use Rattle.names.proofs.PlaceLaws.{place-from}
-use Rattle.names.proofs.TableLaws.{kind-part, kind-rows, row-count, number-found, count-kind}
+use Rattle.names.proofs.TableLaws.{kind-part, kind-rows, row-count, number-found}
 
 pub kind-row : (k : Kind) (name : List ℕ) (from count : ℕ) → from ≡ firstRow k → count ≡ length (namesOf k)
     → rowFrom (flat allNames) (starts 0 allNames) (lengths allNames) name from (from + count - from)
@@ -43,18 +45,24 @@ unnumbered : (first : ℕ) (o : Option ℕ) → none ≡ onward first o → none
 unnumbered first none h = refl
 unnumbered first (some m) h = cc
 
-module _ (k : Kind) (name : List ℕ) (first n : ℕ) (at : first ≡ firstRow k) (h : some n ≡ onward (firstRow k) (numberOf k name)) where
-  pub number-from : first ≤ n
-  number-from = rw at (numbered (firstRow k) n (numberOf k name) h .from)
+-- what the code tells on its way: the row that was found, and the kind's first
+module _ (k : Kind) (name : List ℕ) (r : Row) (told : row r ≡ onward (firstRow k) (numberOf k name)) where
+  pub number-none : r ≡ Nowhere → none ≡ numberOf k name
+  number-none e = unnumbered (firstRow k) (numberOf k name) (rw e at told)
 
-  pub number-is : some (n - first) ≡ numberOf k name
-  number-is = rw at (numbered (firstRow k) n (numberOf k name) h .number)
+  module _ (first n : ℕ) (e : r ≡ At n) (at : first ≡ firstRow k) where
+    there : Numbered (firstRow k) n (numberOf k name)
+    there = numbered (firstRow k) n (numberOf k name) (rw e at told)
 
-  pub number-small : n - first ≤ 43
-  number-small =
-      let b = number-found k name (n - first) (sym number-is) .0 in
-      let c : length (namesOf k) ≤ 44 = omega (arith, kind-rows k) in
-      omega arith
+    pub number-from : first ≤ n
+    number-from = rw at (there .from)
 
-pub number-none : (k : Kind) (name : List ℕ) → none ≡ onward (firstRow k) (numberOf k name) → none ≡ numberOf k name
-number-none k name h = unnumbered (firstRow k) (numberOf k name) h
+    pub number-is : some (n - first) ≡ numberOf k name
+    number-is = rw at (there .number)
+
+    pub number-small : n - first < 256
+    number-small =
+        let b = number-found k name (n - first) (sym number-is) .0 in
+        omega (arith, kind-rows k)
+
+pub ruleset number-laws = (number-none, number-from, number-is, number-small)
