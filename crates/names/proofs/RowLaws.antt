@@ -3,6 +3,7 @@
 use mathlib.Core.Path.{_≡_, refl, sym, ap, _∙_}
 use mathlib.Core.Bool.{Bool, true, false, false≢true}
 use mathlib.Core.List.{List, [], _∷_}
+use mathlib.Core.Logic.{_⊎_, inl, inr, ⊎-elim}
 use mathlib.Core.Option.{Option, some, none}
 use Prim.Native.Nat.{ℕ, zero, suc, _+_, _-_, _≤_, _<_}
 use native.Mathlib.Omega.{arith}
@@ -11,7 +12,8 @@ use lib.ListN.{length, getD, take, drop}
 use borrow.Author.Tests.{lt-ltb, le-ltb, ltb-true, ltb-false, leb-true}
 use Rattle.answer.specs.declared.Refusal.{Refusal}
 use Rattle.answer.specs.Answer.{Out, refused, done, guard, refuse, _>>=_, pick}
-use Rattle.answer.proofs.Laws.{split}
+use Rattle.answer.proofs.Laws.{split, pass, stop}
+use Rattle.put.specs.Written.{written, buffer}
 use Rattle.wire.specs.Shown.{bytesOf}
 use Rattle.text.specs.Same.{same}
 use Rattle.names.specs.Spelled.{entry, rowName, there}
@@ -32,58 +34,76 @@ module _ {A : Type 0} (d : A) (xs : List A) (n : ℕ) where
   pub column-out : (m : ℕ) (r : Refusal) → m ≡ n → r ≡ record { number = 9 } → length xs ≤ m → refused r ≡ entry d xs n
   column-out m r e p h = rw p (sym (entry-out (rw e at h)))
 
+-- a name that is there, and one that is not
+shown : (w : Out (List ℕ)) → there w ≡ true → w ≡ done (bytesOf w)
+shown (refused r) h = absurd (false≢true h)
+shown (done x) h = refl
+
 none-there : (w : Out (List ℕ)) → false ≡ there w → [] ≡ bytesOf w
 none-there (refused r) h = refl
 none-there (done x) h = absurd (false≢true h)
 
 module _ (spellings starts lengths : List ℕ) (n : ℕ) where
-  pub outside-starts : length starts ≤ n → false ≡ there (rowName spellings starts lengths n)
+  abbrev ends : Bool
+  ends = leb (getD starts n 0 + getD lengths n 0) (length spellings)
+
+  abbrev spelt : List ℕ
+  spelt = take (getD lengths n 0) (drop (getD starts n 0) spellings)
+
+  out-starts : length starts ≤ n → rowName spellings starts lengths n ≡ refuse 9
   unfolding rowName _>>=_
-  outside-starts h = rw (entry-out 0 starts n h)
+  out-starts h = rw (entry-out 0 starts n h)
+
+  out-lengths : n < length starts → length lengths ≤ n → rowName spellings starts lengths n ≡ refuse 9
+  unfolding rowName _>>=_
+  out-lengths g h = rw (entry-in 0 starts n g, entry-out 0 lengths n h)
+
+  in-both : n < length starts → n < length lengths → rowName spellings starts lengths n ≡ (guard 9 ends >>= (λ _. done spelt))
+  unfolding rowName _>>=_
+  in-both g h = rw (entry-in 0 starts n g, entry-in 0 lengths n h)
+
+  -- a row that spells something
+  record Inside : Type 0 where
+    start : n < length starts
+    len : n < length lengths
+    end : getD starts n 0 + getD lengths n 0 ≤ length spellings
+    name : rowName spellings starts lengths n ≡ done spelt
+
+  row-either : (rowName spellings starts lengths n ≡ refuse 9) ⊎ Inside
+  row-either =
+      split (ltb n (length starts))
+      (λ e. let g = ltb-true n (length starts) e in
+        split (ltb n (length lengths))
+        (λ f. let k = ltb-true n (length lengths) f in
+          split ends
+          (λ o. inr (record { start = g; len = k; end = leb-true _ _ o; name = in-both g k ∙ pass 9 ends (λ _. done spelt) o }))
+          (λ o. inl (in-both g k ∙ stop 9 ends (λ _. done spelt) o)))
+        (λ f. inl (out-lengths g (ltb-false n (length lengths) f))))
+      (λ e. inl (out-starts (ltb-false n (length starts) e)))
+
+  pub outside-starts : length starts ≤ n → false ≡ there (rowName spellings starts lengths n)
+  outside-starts h = rw (out-starts h)
 
   pub outside-lengths : n < length starts → length lengths ≤ n → false ≡ there (rowName spellings starts lengths n)
-  unfolding rowName _>>=_
-  outside-lengths g h = rw (entry-in 0 starts n g, entry-out 0 lengths n h)
+  outside-lengths g h = rw (out-lengths g h)
 
-  there-guard : (b : Bool) (x : List ℕ) → b ≡ there (guard 9 b >>= (λ _. done x))
+  there-guard : (b : Bool) → b ≡ there (guard 9 b >>= (λ _. done spelt))
   unfolding _>>=_
-  there-guard true x = refl
-  there-guard false x = refl
+  there-guard true = refl
+  there-guard false = refl
 
   pub ends-inside : (a b : ℕ) → a ≡ getD starts n 0 → b ≡ getD lengths n 0 → n < length starts → n < length lengths
       → leb (a + b) (length spellings) ≡ there (rowName spellings starts lengths n)
-  unfolding rowName _>>=_
-  ends-inside a b p q g h =
-      rw (entry-in 0 starts n g, entry-in 0 lengths n h, p, q)
-      (there-guard (leb (getD starts n 0 + getD lengths n 0) (length spellings)) (take (getD lengths n 0) (drop (getD starts n 0) spellings)))
-
-  -- a row that spells something
-  pub record Inside : Type 0 where
-    pub start : n < length starts
-    pub len : n < length lengths
-    pub end : getD starts n 0 + getD lengths n 0 ≤ length spellings
-    pub spelt : rowName spellings starts lengths n ≡ done (take (getD lengths n 0) (drop (getD starts n 0) spellings))
-
-  no-way : {G : Type 0} (w : Out (List ℕ)) → there w ≡ true → false ≡ there w → G
-  no-way w h g = let z : _≡_ {A = Bool} false true = g ∙ h in absurd (false≢true z)
-
-  pub row-inside : there (rowName spellings starts lengths n) ≡ true → Inside
-  unfolding rowName _>>=_
-  row-inside h =
-      split (ltb n (length starts))
-      (λ e. split (ltb n (length lengths))
-        (λ f.
-          let g = ltb-true n (length starts) e in
-          let k = ltb-true n (length lengths) f in
-          let l = leb (getD starts n 0 + getD lengths n 0) (length spellings) in
-          let o : l ≡ true = ends-inside (getD starts n 0) (getD lengths n 0) refl refl g k ∙ h in
-          record { start = g; len = k; end = leb-true _ _ o; spelt = rw (entry-in 0 starts n g, entry-in 0 lengths n k, o) })
-        (λ f. no-way (rowName spellings starts lengths n) h (outside-lengths (ltb-true n (length starts) e) (ltb-false n (length lengths) f))))
-      (λ e. no-way (rowName spellings starts lengths n) h (outside-starts (ltb-false n (length starts) e)))
+  ends-inside a b p q g h = rw (in-both g h, p, q) (there-guard ends)
 
   module _ (b : Bool) (tested : b ≡ there (rowName spellings starts lengths n)) where
     at-inside : b ≡ true → Inside
-    at-inside h = row-inside (sym tested ∙ h)
+    at-inside h =
+        ⊎-elim (λ o. absurd (false≢true (ap there (sym o) ∙ sym tested ∙ h))) (λ i. i) row-either
+
+    at-outside : b ≡ false → rowName spellings starts lengths n ≡ refuse 9
+    at-outside h =
+        ⊎-elim (λ o. o) (λ i. absurd (false≢true (sym h ∙ tested ∙ ap there (i .name)))) row-either
 
     pub inside-starts : b ≡ true → n < length starts
     inside-starts h = at-inside h .start
@@ -98,12 +118,32 @@ module _ (spellings starts lengths : List ℕ) (n : ℕ) where
         → take (s + l - s) (drop s spellings) ≡ bytesOf (rowName spellings starts lengths n)
     inside-spelling s l p q h =
         let e : getD starts n 0 + getD lengths n 0 - getD starts n 0 ≡ getD lengths n 0 = omega arith in
-        rw (p, q, e, at-inside h .spelt)
+        rw (p, q, e, at-inside h .name)
 
     pub outside-spelling : b ≡ false → [] ≡ bytesOf (rowName spellings starts lengths n)
     outside-spelling h = none-there (rowName spellings starts lengths n) (sym h ∙ tested)
 
+    -- what is put of a row, and that a row outside puts nothing
+    module _ (out : List ℕ) (at : ℕ) where
+      pub row-written : (x : List ℕ) (p : Out ℕ) → b ≡ true → x ≡ bytesOf (rowName spellings starts lengths n)
+          → p ≡ written out at (done x) → p ≡ written out at (rowName spellings starts lengths n)
+      row-written x p h e w = rw (shown (rowName spellings starts lengths n) (sym tested ∙ h), ← e) w
+
+      pub row-buffer : (x out′ : List ℕ) → b ≡ true → x ≡ bytesOf (rowName spellings starts lengths n)
+          → out′ ≡ buffer out at (done x) → out′ ≡ buffer out at (rowName spellings starts lengths n)
+      row-buffer x out′ h e w = rw (shown (rowName spellings starts lengths n) (sym tested ∙ h), ← e) w
+
+      pub row-refused : (r : Refusal) → b ≡ false → r ≡ record { number = 9 } → refused r ≡ written out at (rowName spellings starts lengths n)
+      unfolding written _>>=_
+      row-refused r h e = rw (at-outside h, e)
+
+      pub row-kept : b ≡ false → out ≡ buffer out at (rowName spellings starts lengths n)
+      unfolding buffer
+      row-kept h = rw (at-outside h)
+
 pub ruleset inside-laws = (outside-starts, outside-lengths, ends-inside)
+
+pub ruleset put-row-laws = (row-written, row-buffer, row-refused, row-kept)
 
 pub ruleset spelling-laws = (inside-starts, inside-lengths, inside-spellings, inside-spelling, outside-spelling)
 

@@ -12,6 +12,7 @@ pub mod tables;
 
 pub use numbers::lookup;
 pub use rows::find;
+pub use rows::put_row;
 
 // "Each kind of number has a type of its own, so a MAC number can't be used as a cipher number."
 pub struct KexId(pub u8);

@@ -5,8 +5,11 @@ ghost use Prim.Native.Nat.{_-_, _≤_};
 ghost use Rattle.wire.specs.Shown.{bytesOf};
 ghost use mathlib.Core.Bool.{false};
 ghost use Rattle.names.specs.Spelled.{rowName, there, entry, flag};
+ghost use Rattle.put.specs.Written.{written, buffer, put};
 ghost use Rattle.names.specs.Lookup.{rowFrom, is, row};
 
+use answer::refuse;
+use put::Put;
 use super::Flag;
 use super::Row;
 
@@ -76,6 +79,17 @@ pub fn find(spellings: &[u8], starts: &[u16], lengths: &[u8], from: usize, to: u
     Row::Nowhere
 }
 
+// The name that a row spells.
+pub fn put_row(spellings: &[u8], starts: &[u16], lengths: &[u8], row: usize, out: &mut [u8], at: usize) -> Put
+    ensures answer { λ r. ⌜ put r ≡ written (now (out .entry)) at (rowName (now (spellings .entry)) (now (starts .entry)) (now (lengths .entry)) row) ⌝ }
+    ensures bytes { λ r. ⌜ now (out .exit) ≡ buffer (now (out .entry)) at (rowName (now (spellings .entry)) (now (starts .entry)) (now (lengths .entry)) row) ⌝ }
+{
+    if inside(spellings, starts, lengths, row) {
+        return put::put_bytes(out, at, spelling(spellings, starts, lengths, row));
+    }
+    Put::Refused(refuse(9))
+}
+
 // What a column of bools says at a number.
 pub fn flag_at(column: &[bool], number: u8) -> Flag
     ensures { λ r. ⌜ flag r ≡ entry false (now (column .entry)) number ⌝ }
@@ -84,6 +98,6 @@ pub fn flag_at(column: &[bool], number: u8) -> Flag
     if n < column.len() {
         Flag::Is(column[n])
     } else {
-        Flag::Refused(answer::refuse(9))
+        Flag::Refused(refuse(9))
     }
 }
