@@ -3,3 +3,4 @@ pub mod ColumnLaws
 pub mod PlaceLaws
 pub mod TableLaws
 pub mod LookupLaws
+pub mod SpellLaws

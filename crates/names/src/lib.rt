@@ -8,11 +8,13 @@ use answer::Refusal;
 
 mod numbers;
 mod rows;
+mod spell;
 pub mod tables;
 
 pub use numbers::lookup;
 pub use rows::find;
 pub use rows::put_row;
+pub use spell::put_name;
 
 // "Each kind of number has a type of its own, so a MAC number can't be used as a cipher number."
 pub struct KexId(pub u8);

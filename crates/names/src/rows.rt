@@ -13,7 +13,7 @@ use put::Put;
 use super::Flag;
 use super::Row;
 
-fn wide(x: u8) -> usize
+pub fn wide(x: u8) -> usize
     ensures { λ r. ⌜ (r ≡ x) × (r ≤ 255) ⌝ }
 {
     x as usize
