@@ -1,16 +1,14 @@
--- Spelling: a number's name, and names in a list. "A local number outside its table" is 9 (document 01).
+-- Spelling: a number's name. "A local number outside its table" is 9 (document 01).
 use mathlib.Core.Bool.{Bool, true, false}
-use mathlib.Core.List.{List, [], _∷_}
+use mathlib.Core.List.{List, []}
 use Prim.Native.Nat.{ℕ, _+_}
 use lib.Dec.{ltb, leb}
 use lib.ListN.{length, getD, take, drop}
 use Rattle.answer.specs.Answer.{Out, refused, done, guard, _>>=_}
-use Rattle.wire.specs.Names.{join}
-use Rattle.put.specs.Written.{string}
 use Rattle.names.specs.declared.Kind.{Kind}
 use Rattle.names.specs.declared.Flag.{Flag}
 use Rattle.names.specs.declared.Flag.the-variants.{Is, Refused}
-use Rattle.names.specs.Tables.{namesOf, allNames, needMac, builtIn}
+use Rattle.names.specs.Tables.{namesOf, needMac, builtIn}
 
 -- what stands at a place of a table; the default is never seen
 unfoldable pub entry : {A : Type 0} → A → List A → ℕ → Out A
@@ -38,24 +36,6 @@ rowName spellings starts lengths n = do
 abbrev pub there : Out (List ℕ) → Bool
 there (refused r) = false
 there (done x) = true
-
--- the names of a list of numbers, each as `name` has it
-unfoldable pub namesBy : (ℕ → Out (List ℕ)) → List ℕ → Out (List (List ℕ))
-namesBy name [] = done []
-namesBy name (n ∷ ns) = do
-  x ← name n
-  xs ← namesBy name ns
-  done (x ∷ xs)
-
--- the name-list that is written of them (RFC 4251 section 5): joined by commas, as a string
-unfoldable pub listBy : (ℕ → Out (List ℕ)) → List ℕ → Out (List ℕ)
-listBy name ns = do
-  names ← namesBy name ns
-  string (join names)
-
--- of rows of the one table
-abbrev pub nameListOf : List ℕ → Out (List ℕ)
-nameListOf ns = listBy (nameAt allNames) ns
 
 -- what a `Flag` means
 abbrev pub flag : Flag → Out Bool

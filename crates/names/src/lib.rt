@@ -13,7 +13,10 @@ pub mod tables;
 
 pub use numbers::lookup;
 pub use rows::find;
+pub use rows::inside;
 pub use rows::put_row;
+pub use rows::spelling;
+pub use rows::wide;
 pub use spell::put_name;
 
 // "Each kind of number has a type of its own, so a MAC number can't be used as a cipher number."

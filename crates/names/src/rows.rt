@@ -13,6 +13,7 @@ use put::Put;
 use super::Flag;
 use super::Row;
 
+// A byte as an index, with its bound.
 pub fn wide(x: u8) -> usize
     ensures { λ r. ⌜ (r ≡ x) × (r ≤ 255) ⌝ }
 {
@@ -26,7 +27,7 @@ fn wider(x: u16) -> usize
 }
 
 // The row spells something: it is in both columns, and ends within the spellings.
-fn inside(spellings: &[u8], starts: &[u16], lengths: &[u8], row: usize) -> bool
+pub fn inside(spellings: &[u8], starts: &[u16], lengths: &[u8], row: usize) -> bool
     ensures { λ r. ⌜ r ≡ there (rowName (now (spellings .entry)) (now (starts .entry)) (now (lengths .entry)) row) ⌝ }
 {
     if starts.len() <= row {
@@ -40,7 +41,7 @@ fn inside(spellings: &[u8], starts: &[u16], lengths: &[u8], row: usize) -> bool
 }
 
 // What it spells, which is nothing if it is outside.
-fn spelling<'a, 'b, 'c>(
+pub fn spelling<'a, 'b, 'c>(
     spellings: &'a [u8],
     starts: &'b [u16],
     lengths: &'c [u8],
