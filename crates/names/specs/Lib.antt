@@ -1,3 +1,3 @@
 pub mod Tables
-pub mod Lookup
 pub mod Spelled
+pub mod Lookup

@@ -1,10 +1,10 @@
 -- The names of document 01, "Names and their numbers": a name's number is its place in its kind, from 0.
-use mathlib.Core.Bool.{Bool, true, false, _&&_, not}
+use mathlib.Core.Bool.{Bool, true, false, _&&_, _||_}
 use mathlib.Core.List.{List, [], _∷_, _++_, map}
 use Prim.Native.Nat.{ℕ}
 use Prim.Native.Char.{code}
 use Prim.Native.String.{String, [] as nil, _∷_ as _then_}
-use lib.Dec.{leb, ltb}
+use lib.Dec.{eqb}
 use Rattle.names.specs.declared.Kind.{Kind}
 use Rattle.names.specs.declared.Kind.the-variants.{Kex, Key, Certificate, Cipher, Mac, Compression}
 
@@ -60,12 +60,24 @@ cipherNames =
     ∷ bytes "chacha20-poly1305@openssh.com"
     ∷ []
 
+-- a word stands in a name: at its start, or further on
+abbrev pub starts : List ℕ → List ℕ → Bool
+starts [] s = true
+starts (a ∷ w) [] = false
+starts (a ∷ w) (b ∷ s) = eqb a b && starts w s
+
+abbrev pub has : List ℕ → List ℕ → Bool
+has w [] = starts w []
+has w (b ∷ s) = starts w (b ∷ s) || has w s
+
 -- "The ctr and cbc names need a MAC; the others do not, and of those gcm and chacha20 have built-in integrity."
 unfoldable pub needMac : List Bool
-needMac = false ∷ false ∷ true ∷ true ∷ true ∷ false ∷ false ∷ true ∷ true ∷ true ∷ false ∷ []
+unfolding cipherNames
+needMac = map (λ name. has (bytes "ctr") name || has (bytes "cbc") name) cipherNames
 
 unfoldable pub builtIn : List Bool
-builtIn = false ∷ false ∷ false ∷ false ∷ false ∷ true ∷ true ∷ false ∷ false ∷ false ∷ true ∷ []
+unfolding cipherNames
+builtIn = map (λ name. has (bytes "gcm") name || has (bytes "chacha20") name) cipherNames
 
 unfoldable pub macNames : List (List ℕ)
 macNames =
@@ -93,7 +105,7 @@ unfoldable pub allNames : List (List ℕ)
 allNames = kexNames ++ keyNames ++ certificateNames ++ cipherNames ++ macNames ++ compressionNames
 
 -- the row at which a kind starts
-unfoldable pub firstRow : Kind → ℕ
+abbrev pub firstRow : Kind → ℕ
 firstRow Kex = 0
 firstRow Key = 13
 firstRow Certificate = 20

@@ -1,4 +1,23 @@
 // The name tables of document 01, "Names and their numbers".
+ghost use mathlib.Core.Path.{_≡_};
+ghost use lib.ListN.{length};
+ghost use Rattle.names.specs.Tables.{namesOf, firstRow};
+ghost use Rattle.names.specs.Spelled.{flag, needsMac, builtInIntegrity};
+
+use answer::Refusal;
+
+mod numbers;
+mod rows;
+mod spell;
+pub mod tables;
+
+pub use numbers::lookup;
+pub use rows::find;
+pub use rows::inside;
+pub use rows::put_row;
+pub use rows::spelling;
+pub use rows::wide;
+pub use spell::put_name;
 
 // "Each kind of number has a type of its own, so a MAC number can't be used as a cipher number."
 pub struct KexId(pub u8);
@@ -25,4 +44,59 @@ pub enum Kind {
 pub enum Found {
     Number(u8),
     Unknown,
+}
+
+// A name's row, or that no row spells it.
+pub enum Row {
+    At(usize),
+    Nowhere,
+}
+
+// What a column of the table says.
+pub enum Flag {
+    Is(bool),
+    Refused(Refusal),
+}
+
+impl Kind {
+    // The row at which the kind's names start.
+    pub fn first_row(self) -> usize
+        ensures { λ r. ⌜ r ≡ firstRow self ⌝ }
+    {
+        match self {
+            Kind::Kex => 0,
+            Kind::Key => 13,
+            Kind::Certificate => 20,
+            Kind::Cipher => 27,
+            Kind::Mac => 38,
+            Kind::Compression => 43,
+        }
+    }
+
+    pub fn count(self) -> usize
+        ensures { λ r. ⌜ r ≡ length (namesOf self) ⌝ }
+    {
+        match self {
+            Kind::Kex => 13,
+            Kind::Key => 7,
+            Kind::Certificate => 7,
+            Kind::Cipher => 11,
+            Kind::Mac => 5,
+            Kind::Compression => 1,
+        }
+    }
+}
+
+impl CipherId {
+    pub fn needs_mac(self) -> Flag
+        ensures { λ r. ⌜ flag r ≡ needsMac (self .0) ⌝ }
+    {
+        rows::flag_at(&tables::NEEDS_MAC, self.0)
+    }
+
+    pub fn built_in_integrity(self) -> Flag
+        ensures { λ r. ⌜ flag r ≡ builtInIntegrity (self .0) ⌝ }
+    {
+        rows::flag_at(&tables::BUILT_IN, self.0)
+    }
 }

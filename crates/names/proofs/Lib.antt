@@ -1,0 +1,6 @@
+pub mod RowLaws
+pub mod ColumnLaws
+pub mod PlaceLaws
+pub mod TableLaws
+pub mod LookupLaws
+pub mod SpellLaws
