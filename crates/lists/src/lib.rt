@@ -13,7 +13,6 @@ ghost use Rattle.wire.specs.Shown.{bytesOf};
 ghost use Rattle.names.specs.Spelled.{rowName};
 ghost use Rattle.lists.specs.Lists.{listBy, nameListOf};
 ghost use Rattle.lists.specs.Texts.{named, texts, most, sizeFrom, nextOr};
-
 use answer::refuse;
 use names::inside;
 use names::spelling;
@@ -55,7 +54,10 @@ fn size(spellings: &[u8], starts: &[u16], lengths: &[u8], rows: &[u8]) -> usize
     let mut total = 0;
     let mut i = 0;
     while i < rows.len() {
-        total = counted(total, spelling(spellings, starts, lengths, wide(rows[i])).len());
+        total = counted(
+            total,
+            spelling(spellings, starts, lengths, wide(rows[i])).len(),
+        );
         i += 1;
     }
     total

@@ -3,7 +3,6 @@ ghost use mathlib.Core.Path.{_≡_};
 ghost use lib.ListN.{length};
 ghost use Rattle.names.specs.Tables.{namesOf, firstRow};
 ghost use Rattle.names.specs.Spelled.{flag, needsMac, builtInIntegrity};
-
 use answer::Refusal;
 
 mod numbers;
