@@ -1,5 +1,5 @@
 -- The choice over any two lists of names (document 01, "Choice"; RFC 4253 section 7.1).
-use mathlib.Core.Bool.{Bool, true, false, _||_}
+use mathlib.Core.Bool.{Bool, false, _||_}
 use mathlib.Core.List.{List, [], _∷_}
 use mathlib.Core.Option.{Option, some, none}
 use Prim.Native.Nat.{ℕ}
