@@ -26,6 +26,7 @@ use Rattle.choice.proofs.FirstLaws.{First, kept, first-found, found-fir
 
 -- the two ends choose one name
 pub ends-agree : (client server : List (List ℕ)) → chosen Client client server ≡ chosen Server server client
+unfolding chosen
 ends-agree client server = refl
 
 module _ (client server : List (List ℕ)) where
@@ -86,7 +87,7 @@ pub record Both (side : Side) (own peer : List (List ℕ)) : Type 0 where
   pub isChosen : chosen side own peer ≡ some name
 
 starts-chosen : (side : Side) (n : List ℕ) (own peer : List (List ℕ)) → chosen side (n ∷ own) (n ∷ peer) ≡ some n
-unfolding firstShared first listed
+unfolding chosen firstShared first listed
 starts-chosen Client n own peer = rw (same-self n)
 starts-chosen Server n own peer = rw (same-self n)
 
@@ -121,13 +122,13 @@ module _ (spells : ℕ → List ℕ → Bool) where
   -- what holds of all own rows holds of the chosen one, which is one of them
   pub chosen-among : (f : ℕ → Bool) (side : Side) (own : List ℕ) (peer : List (List ℕ)) (r : ℕ)
       → every f own ≡ true → chosenRow spells side own peer ≡ some r → f r ≡ true
-  unfolding ownFirst
+  unfolding chosenRow ownFirst
   chosen-among f Client own peer r h e = first-among (offered spells) peer f own r h e
   chosen-among f Server own peer r h e = among f own r h peer e
 
   -- an own list of one row: the choice says whether the row's name is offered
   pub chosen-one : (side : Side) (r : ℕ) (peer : List (List ℕ)) → chosenRow spells side (r ∷ []) peer ≡ pick (offered spells r peer) (some r) none
-  unfolding ownFirst peerFirst rowFor first offered orElse
+  unfolding chosenRow ownFirst peerFirst rowFor first offered orElse
   chosen-one Client r peer = refl
   chosen-one Server r [] = refl
   chosen-one Server r (name ∷ peer) = split (spells r name) (λ e. rw e) (λ e. rw e (chosen-one Server r peer))
@@ -147,7 +148,7 @@ module _ (t u : ℕ → List ℕ → Bool) (agree : (r : ℕ) (name : List ℕ) 
   offered-alike r (name ∷ peer) = rw (agree r name, offered-alike r peer)
 
   pub chosen-alike : (side : Side) (own : List ℕ) (peer : List (List ℕ)) → chosenRow t side own peer ≡ chosenRow u side own peer
-  unfolding ownFirst peerFirst rowFor
+  unfolding chosenRow ownFirst peerFirst rowFor
   chosen-alike Client own peer =
       first-same (offered t) (offered u) peer peer any (λ r h. offered-alike r peer) own (every-any own)
   chosen-alike Server own [] = refl
@@ -209,7 +210,7 @@ row-named name (r ∷ own) h =
 -- the chosen row's name is the chosen name, and no row is chosen just where no name is
 pub chosen-named : (side : Side) (own : List ℕ) (peer : List (List ℕ)) → every inTable own ≡ true
     → Option·map rowSpelled (chosenRow spellsName side own peer) ≡ chosen side (spelledRows own) peer
-unfolding ownFirst peerFirst firstShared first orElse
+unfolding chosenRow ownFirst peerFirst chosen firstShared first orElse
 chosen-named Client own peer h = first-map rowSpelled (offered spellsName) listed inTable peer peer (offered-listed peer) own h
 chosen-named Server own [] h = refl
 chosen-named Server own (name ∷ peer) h =

@@ -153,9 +153,11 @@ pub ruleset own-laws = (name-inside, name-less, own-start, own-count, own-done, 
 -- by sides
 module _ (spells : ℕ → List ℕ → Bool) (own : List ℕ) (names : List (List ℕ)) (v : Option ℕ) where
   pub client-first : (side : Side) → side ≡ Client → v ≡ ownFirst spells own names → v ≡ chosenRow spells side own names
+  unfolding chosenRow
   client-first side e h = rw e h
 
   pub server-first : (side : Side) → side ≡ Server → v ≡ peerFirst spells own names → v ≡ chosenRow spells side own names
+  unfolding chosenRow
   server-first side e h = rw e h
 
 pub ruleset side-laws = (client-first, server-first)

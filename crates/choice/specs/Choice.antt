@@ -22,7 +22,7 @@ unfoldable pub firstShared : List (List ℕ) → List (List ℕ) → Option (Lis
 firstShared client server = first listed client server
 
 -- at either end, over the own list and the peer's
-abbrev pub chosen : Side → List (List ℕ) → List (List ℕ) → Option (List ℕ)
+unfoldable pub chosen : Side → List (List ℕ) → List (List ℕ) → Option (List ℕ)
 chosen Client own peer = firstShared own peer
 chosen Server own peer = firstShared peer own
 

@@ -35,7 +35,7 @@ module _ (spells : ℕ → List ℕ → Bool) where
   peerFirst own [] = none
   peerFirst own (name ∷ peer) = orElse (rowFor own name) (peerFirst own peer)
 
-  abbrev pub chosenRow : Side → List ℕ → List (List ℕ) → Option ℕ
+  unfoldable pub chosenRow : Side → List ℕ → List (List ℕ) → Option ℕ
   chosenRow Client own peer = ownFirst own peer
   chosenRow Server own peer = peerFirst own peer
 
