@@ -1,17 +1,14 @@
 -- The place of the first that passes a test, and what stands there. Assumes nothing.
-use mathlib.Core.Path.{_≡_, refl, sym, ap, _∙_}
-use mathlib.Core.Bool.{Bool, true, false}
+use mathlib.Core.Path.{_≡_, refl, ap}
+use mathlib.Core.Bool.{Bool}
 use mathlib.Core.List.{List, [], _∷_}
-use mathlib.Core.Option.{Option, some, none}
-use Prim.Native.Nat.{ℕ, zero, suc, _+_, _≤_, _<_}
-use native.Mathlib.Nat.{add-zero}
+use mathlib.Core.Option.{some, none}
+use Prim.Native.Nat.{ℕ, suc, _+_, _≤_, _<_}
 use native.Mathlib.Numerals.{add-one}
 use native.Mathlib.Omega.{arith}
-use lib.Dec.{ltb, leb·suc-suc, leb·suc-zero}
-use lib.ListN.{length, getD, take, drop}
-use lib.Seq.{drop-cons, take-take, take-length, length-take-le}
+use lib.Dec.{leb·suc-suc}
+use lib.ListN.{length, getD, take}
 use borrow.Author.Tests.{lt-ltb, le-ltb}
-use Rattle.answer.specs.Answer.{pick}
 use Rattle.answer.proofs.Laws.{split}
 use Rattle.choice.specs.Choice.{first}
 use Rattle.choice.specs.Rows.{offered, placeOf, rowAt}

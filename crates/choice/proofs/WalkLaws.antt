@@ -1,9 +1,9 @@
 -- What the code's tests and calls say on the way, one law for each answer. Assumes nothing.
-use mathlib.Core.Path.{_≡_, refl, sym, ap, _∙_}
+use mathlib.Core.Path.{_≡_, refl, sym, _∙_}
 use mathlib.Core.Bool.{Bool, true, false}
 use mathlib.Core.List.{List, [], _∷_}
-use mathlib.Core.Option.{Option, some, none}
-use Prim.Native.Nat.{ℕ, zero, suc, _+_, _-_, _≤_, _<_}
+use mathlib.Core.Option.{Option, some, none, orElse}
+use Prim.Native.Nat.{ℕ, _+_, _-_, _≤_, _<_}
 use native.Mathlib.Nat.{add-zero, add-sub-cancel-left}
 use native.Mathlib.Numerals.{add-one}
 use native.Mathlib.Omega.{arith}
@@ -25,7 +25,6 @@ use Rattle.names.specs.declared.Row.{Row}
 use Rattle.names.specs.declared.Row.the-variants.{At, Nowhere}
 use Rattle.names.specs.Spelled.{rowName}
 use Rattle.names.specs.Lookup.{rowFrom, is, row}
-use Rattle.choice.specs.Choice.{first}
 use Rattle.choice.specs.declared.Side.{Side}
 use Rattle.choice.specs.declared.Side.the-variants.{Client, Server}
 use Rattle.choice.specs.Rows.{chosenRow, offered, rowFor, ownFirst, peerFirst, firstBoth, placeOf, rowAt}
@@ -94,11 +93,11 @@ module _ (s : List ℕ) (i : ℕ) (r : NextName) (told : nextOf s r ≡ nextName
       module _ (p : Place) (c : Cursor) (name : List ℕ) (e : r ≡ Name p c) (f : name ≡ part p s) (k : ℕ)
           (at : k ≡ placeOf spells own name) where
         pub peer-here : k < length own → some (getD own k 0) ≡ whole
-        unfolding peerFirst rowFor
+        unfolding peerFirst rowFor orElse
         peer-here h = rw (inv, one-more p c name e f, first-at, ← at, ← row-in own k h)
 
         pub peer-on : length own ≤ k → whole ≡ peerFirst spells own (cut (drop (c .at) s))
-        unfolding peerFirst rowFor
+        unfolding peerFirst rowFor orElse
         peer-on h = rw (inv, one-more p c name e f, first-at, ← at, ← row-out own k h)
 
     module _ (names : List (List ℕ)) (best : ℕ) (b : best ≤ length own)
@@ -154,9 +153,11 @@ pub ruleset own-laws = (name-inside, name-less, own-start, own-count, own-done, 
 -- by sides
 module _ (spells : ℕ → List ℕ → Bool) (own : List ℕ) (names : List (List ℕ)) (v : Option ℕ) where
   pub client-first : (side : Side) → side ≡ Client → v ≡ ownFirst spells own names → v ≡ chosenRow spells side own names
+  unfolding chosenRow
   client-first side e h = rw e h
 
   pub server-first : (side : Side) → side ≡ Server → v ≡ peerFirst spells own names → v ≡ chosenRow spells side own names
+  unfolding chosenRow
   server-first side e h = rw e h
 
 pub ruleset side-laws = (client-first, server-first)

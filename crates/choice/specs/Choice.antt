@@ -1,5 +1,5 @@
 -- The choice over any two lists of names (document 01, "Choice"; RFC 4253 section 7.1).
-use mathlib.Core.Bool.{Bool, true, false, _||_}
+use mathlib.Core.Bool.{Bool, false, _||_}
 use mathlib.Core.List.{List, [], _∷_}
 use mathlib.Core.Option.{Option, some, none}
 use Prim.Native.Nat.{ℕ}
@@ -22,7 +22,7 @@ unfoldable pub firstShared : List (List ℕ) → List (List ℕ) → Option (Lis
 firstShared client server = first listed client server
 
 -- at either end, over the own list and the peer's
-abbrev pub chosen : Side → List (List ℕ) → List (List ℕ) → Option (List ℕ)
+unfoldable pub chosen : Side → List (List ℕ) → List (List ℕ) → Option (List ℕ)
 chosen Client own peer = firstShared own peer
 chosen Server own peer = firstShared peer own
 

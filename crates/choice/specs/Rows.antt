@@ -1,8 +1,8 @@
 -- The same choice as the code makes it: the own list is one of rows of a table, and a row is chosen. Over any test of
 -- whether a row spells a name, so over any table.
-use mathlib.Core.Bool.{Bool, true, false, _||_}
+use mathlib.Core.Bool.{Bool, false, _||_}
 use mathlib.Core.List.{List, [], _∷_, map}
-use mathlib.Core.Option.{Option, some, none}
+use mathlib.Core.Option.{Option, some, none, orElse}
 use Prim.Native.Nat.{ℕ, _+_}
 use lib.Dec.{ltb}
 use lib.ListN.{length, getD}
@@ -15,10 +15,6 @@ use Rattle.choice.specs.declared.Side.{Side}
 use Rattle.choice.specs.declared.Side.the-variants.{Client, Server}
 use Rattle.choice.specs.declared.Chosen.{Chosen}
 use Rattle.choice.specs.declared.Chosen.the-variants.{Row, Nothing}
-
-abbrev pub orElse : {A : Type 0} → Option A → Option A → Option A
-orElse (some x) y = some x
-orElse none y = y
 
 module _ (spells : ℕ → List ℕ → Bool) where
   -- a row's name stands in the list
@@ -39,7 +35,7 @@ module _ (spells : ℕ → List ℕ → Bool) where
   peerFirst own [] = none
   peerFirst own (name ∷ peer) = orElse (rowFor own name) (peerFirst own peer)
 
-  abbrev pub chosenRow : Side → List ℕ → List (List ℕ) → Option ℕ
+  unfoldable pub chosenRow : Side → List ℕ → List (List ℕ) → Option ℕ
   chosenRow Client own peer = ownFirst own peer
   chosenRow Server own peer = peerFirst own peer
 
