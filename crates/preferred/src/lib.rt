@@ -2,6 +2,7 @@
 // `server_certificate_names` and `possible_host_key_algos_for_keys` of src/negotiation.rs.
 
 mod judge;
+mod made;
 
 pub use judge::valid;
 
