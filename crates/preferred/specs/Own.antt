@@ -78,11 +78,13 @@ certificates names key keyIds (k ∷ ks) (i ∷ ids) =
 
 -- "Key list of a client: certificate names, then key names. Of a server: certificate names, then the preferred key names
 -- whose kind it holds."
-unfoldable pub keyOf : Side → Tables → List ℕ
-keyOf Client t = rows Certificate (t .certificate) ++ rows Key (t .key)
-keyOf Server t =
-    rows Certificate (certificates [] (t .key) (t .keyIds) (t .certKinds) (t .certIds))
-    ++ rows Key (held (t .keyKinds) (t .key))
+unfoldable pub keysOf : Side → List ℕ → List ℕ → List ℕ → List ℕ → List ℕ → List ℕ → List ℕ
+keysOf Client key certificate keyKinds keyIds certKinds certIds = rows Certificate certificate ++ rows Key key
+keysOf Server key certificate keyKinds keyIds certKinds certIds =
+    rows Certificate (certificates [] key keyIds certKinds certIds) ++ rows Key (held keyKinds key)
+
+abbrev pub keyOf : Side → Tables → List ℕ
+keyOf side t = keysOf side (t .key) (t .certificate) (t .keyKinds) (t .keyIds) (t .certKinds) (t .certIds)
 
 abbrev pub keyRows : Tables → List ℕ
 keyRows t = keyOf (t .side) t
@@ -94,10 +96,9 @@ mostOwn = 32
 abbrev pub rowList : List ℕ → RowList
 rowList xs = record { rows = xs ++ replicate (mostOwn - length xs) 0; len = length xs }
 
-unfoldable pub ownOf : Tables → Own
-ownOf t =
-    pick (valid t)
-    (record {
+unfoldable pub listsOf : Tables → Own
+listsOf t =
+    record {
       number = 0;
       «kex_written» = rowList (kexWritten t);
       «kex_chosen» = rowList (kexChosen t);
@@ -105,8 +106,11 @@ ownOf t =
       cipher = rowList (rows Cipher (t .cipher));
       mac = rowList (rows Mac (t .mac));
       compression = rowList (rows Compression (t .compression));
-    })
-    (record {
+    }
+
+unfoldable pub noOwn : Own
+noOwn =
+    record {
       number = 9;
       «kex_written» = rowList [];
       «kex_chosen» = rowList [];
@@ -114,4 +118,7 @@ ownOf t =
       cipher = rowList [];
       mac = rowList [];
       compression = rowList [];
-    })
+    }
+
+unfoldable pub ownOf : Tables → Own
+ownOf t = pick (valid t) (listsOf t) noOwn

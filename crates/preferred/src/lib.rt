@@ -1,10 +1,12 @@
 // The local tables (document 01): what they may be, and the lists that this side writes and chooses from. `Preferred`,
 // `server_certificate_names` and `possible_host_key_algos_for_keys` of src/negotiation.rs.
 
+mod filters;
 mod judge;
-mod made;
+mod make;
 
 pub use judge::valid;
+pub use make::own_lists;
 
 // Rows of the name table, `len` of them, and 0 after them.
 pub struct RowList {
