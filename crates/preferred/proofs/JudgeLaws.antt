@@ -14,7 +14,7 @@ use Rattle.names.specs.declared.Kind.{Kind}
 use Rattle.names.specs.Tables.{namesOf}
 use Rattle.choice.specs.declared.Side.{Side}
 use Rattle.choice.specs.declared.Side.the-variants.{Client, Server}
-use Rattle.preferred.specs.Tables.{all, below, goodList, goodRows, eachRow, rowsOf}
+use Rattle.preferred.specs.Tables.{mostEntries, mostRows, kinds, all, below, goodList, goodRows, eachRow, rowsOf}
 
 pub next : (xs : List ℕ) (i : ℕ) → i < length xs → drop i xs ≡ getD xs i 0 ∷ drop (i + 1) xs
 next xs i h = rw add-one (drop-cons xs i 0 h)
@@ -103,13 +103,13 @@ pub ruleset chain = (all-out, all-on, all-last)
 
 -- a list, and a row table, by the tests of their lengths
 module _ (k : Kind) (ns : List ℕ) where
-  pub list-long : 16 < length ns → false ≡ goodList k ns
+  pub list-long : mostEntries < length ns → false ≡ goodList k ns
   unfolding goodList all
-  list-long h = rw (lt-leb (length ns) 16 h)
+  list-long h = rw (lt-leb (length ns) mostEntries h)
 
-  pub list-judged : length ns ≤ 16 → (count : ℕ) → count ≡ length (namesOf k) → (r : Bool) → r ≡ below count ns → r ≡ goodList k ns
+  pub list-judged : length ns ≤ mostEntries → (count : ℕ) → count ≡ length (namesOf k) → (r : Bool) → r ≡ below count ns → r ≡ goodList k ns
   unfolding goodList
-  list-judged h count c r e = rw (le-leb (length ns) 16 h, ← c) (all-on true true r _ refl refl (all-last _ r e))
+  list-judged h count c r e = rw (le-leb (length ns) mostEntries h, ← c) (all-on true true r _ refl refl (all-last _ r e))
 
 module _ (ks ids : List ℕ) where
   pub rows-uneven : (length ks ≡ length ids → ⊥) → false ≡ goodRows ks ids
@@ -117,12 +117,12 @@ module _ (ks ids : List ℕ) where
   rows-uneven h = rw (ne-eqb (length ks) (length ids) h)
 
   module _ (e : length ks ≡ length ids) where
-    pub rows-many : 8 < length ks → false ≡ goodRows ks ids
+    pub rows-many : mostRows < length ks → false ≡ goodRows ks ids
     unfolding goodRows all
-    rows-many h = rw (eq-eqb (length ks) (length ids) e, lt-leb (length ks) 8 h)
+    rows-many h = rw (eq-eqb (length ks) (length ids) e, lt-leb (length ks) mostRows h)
 
-    pub rows-judged : length ks ≤ 8 → (r : Bool) → r ≡ below 5 ks → r ≡ goodRows ks ids
+    pub rows-judged : length ks ≤ mostRows → (r : Bool) → r ≡ below kinds ks → r ≡ goodRows ks ids
     unfolding goodRows
-    rows-judged h r f = rw (eq-eqb (length ks) (length ids) e, le-leb (length ks) 8 h) (all-on true true r _ refl refl (all-on true true r _ refl refl (all-last _ r f)))
+    rows-judged h r f = rw (eq-eqb (length ks) (length ids) e, le-leb (length ks) mostRows h) (all-on true true r _ refl refl (all-on true true r _ refl refl (all-last _ r f)))
 
 pub ruleset length-laws = (list-long, list-judged, rows-uneven, rows-many, rows-judged)

@@ -14,8 +14,8 @@ use Rattle.answer.proofs.Laws.{split, and-left, and-right}
 use Rattle.names.specs.declared.Kind.{Kind}
 use Rattle.names.specs.Tables.{namesOf, firstRow}
 use Rattle.preferred.specs.declared.RowList.{RowList}
-use Rattle.preferred.specs.Tables.{all, below, goodList}
-use Rattle.preferred.specs.Own.{member, kept, without, held, ofKind, kindOf, rows, rowList}
+use Rattle.preferred.specs.Tables.{mostEntries, all, below, goodList}
+use Rattle.preferred.specs.Own.{mostOwn, member, kept, without, held, ofKind, kindOf, rows, rowList}
 use Rattle.preferred.specs.Made.{shown, pushed, joined, joinedOnce, certified}
 use Rattle.preferred.proofs.JudgeLaws.{next}
 
@@ -24,13 +24,13 @@ module _ (l : RowList) (n : ℕ) (wanted : Bool) where
   push-not e = rw (not-true wanted e)
 
   module _ (e : not wanted ≡ false) where
-    pub push-full : 32 ≤ l .len → l ≡ pick wanted (pushed l n) l
+    pub push-full : mostOwn ≤ l .len → l ≡ pick wanted (pushed l n) l
     unfolding pushed
-    push-full h = rw (not-false wanted e, le-ltb (l .len) 32 h)
+    push-full h = rw (not-false wanted e, le-ltb (l .len) mostOwn h)
 
-    pub push-on : l .len < 32 → _≡_ {A = RowList} (record { rows = set (l .rows) (l .len) n; len = l .len + 1 }) (pick wanted (pushed l n) l)
+    pub push-on : l .len < mostOwn → _≡_ {A = RowList} (record { rows = set (l .rows) (l .len) n; len = l .len + 1 }) (pick wanted (pushed l n) l)
     unfolding pushed
-    push-on h = rw (not-false wanted e, lt-ltb (l .len) 32 h)
+    push-on h = rw (not-false wanted e, lt-ltb (l .len) mostOwn h)
 
 pub ruleset push-laws = (push-not, push-full, push-on)
 
@@ -181,7 +181,7 @@ below-at count (n ∷ ns) h (suc i) l = below-at count ns (and-right (ltb n coun
 module _ (k : Kind) (ns : List ℕ) (i : ℕ) where
   pub row-known : goodList k ns ≡ true → i < length ns → getD ns i 0 < length (namesOf k)
   unfolding goodList all
-  row-known g h = below-at (length (namesOf k)) ns (and-left (below (length (namesOf k)) ns) true (and-right (leb (length ns) 16) (below (length (namesOf k)) ns && true) g)) i h
+  row-known g h = below-at (length (namesOf k)) ns (and-left (below (length (namesOf k)) ns) true (and-right (leb (length ns) mostEntries) (below (length (namesOf k)) ns && true) g)) i h
 
   module _ (whole l : RowList) (left : whole ≡ joined l (rows k (drop i ns))) where
     pub rows-end : length ns ≤ i → l ≡ whole

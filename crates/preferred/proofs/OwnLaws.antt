@@ -18,7 +18,7 @@ use Rattle.choice.specs.declared.Side.the-variants.{Client, Server}
 use Rattle.preferred.specs.declared.RowList.{RowList}
 use Rattle.preferred.specs.declared.Own.{Own}
 use Rattle.preferred.specs.Tables.{Tables, all, below, goodList, mostEntries, valid}
-use Rattle.preferred.specs.Own.{member, kept, without, held, kindOf, certificates, rows, rowList, extensions, other, kexWritten, kexChosen, keysOf, keyRows, noOwn, listsOf, ownOf}
+use Rattle.preferred.specs.Own.{mostOwn, member, kept, without, held, kindOf, certificates, rows, rowList, extensions, other, kexWritten, kexChosen, keysOf, keyRows, noOwn, listsOf, ownOf}
 use Rattle.preferred.specs.Made.{shown, joined, certified}
 use Rattle.preferred.proofs.FitLaws.{shown-list, joined-list, certified-list}
 use Rattle.preferred.proofs.RoomLaws.{kept-short, kept-below, certificates-short, certificates-numbers}
@@ -67,7 +67,7 @@ module _ (ns : List ℕ) (g : goodList Kex ns ≡ true) (r : RowList) where
   pub kex-list : (dropped : List ℕ) → r ≡ joined (rowList []) (without dropped ns) → r ≡ rowList (rows Kex (without dropped ns))
   kex-list dropped e =
       let l : length (without dropped ns) ≤ mostEntries = good-short Kex (without dropped ns) (good-without Kex dropped ns g) in
-      let m : length {A = ℕ} [] + length (without dropped ns) ≤ 32 = omega arith in
+      let m : length {A = ℕ} [] + length (without dropped ns) ≤ mostOwn = omega arith in
       e ∙ joined-list [] (without dropped ns) m ∙ rw (kex-rows (without dropped ns))
 
   pub kex-client : (side : Side) → side ≡ Client → r ≡ joined (rowList []) (without (10 ∷ 12 ∷ []) ns)
@@ -86,13 +86,13 @@ rows-short k ns g = rw (length-map ns (λ (n : ℕ). firstRow k + n)) (good-shor
 module _ (k : Kind) (ns : List ℕ) (g : goodList k ns ≡ true) where
   pub rows-list : (l : RowList) → l ≡ rowList [] → (r : RowList) → r ≡ joined l (rows k ns) → r ≡ rowList (rows k ns)
   rows-list l e r q =
-      let m : length {A = ℕ} [] + length (rows k ns) ≤ 32 = let h = rows-short k ns g in omega arith in
+      let m : length {A = ℕ} [] + length (rows k ns) ≤ mostOwn = let h = rows-short k ns g in omega arith in
       q ∙ rw e (joined-list [] (rows k ns) m)
 
   pub rows-after : (k′ : Kind) (ns′ : List ℕ) → goodList k′ ns′ ≡ true → (l : RowList) → l ≡ rowList (rows k ns) → (r : RowList)
       → r ≡ joined l (rows k′ ns′) → r ≡ rowList (rows k ns ++ rows k′ ns′)
   rows-after k′ ns′ g′ l e r q =
-      let m : length (rows k ns) + length (rows k′ ns′) ≤ 32 = let h = rows-short k ns g in let h′ = rows-short k′ ns′ g′ in omega arith in
+      let m : length (rows k ns) + length (rows k′ ns′) ≤ mostOwn = let h = rows-short k ns g in let h′ = rows-short k′ ns′ g′ in omega arith in
       q ∙ rw e (joined-list (rows k ns) (rows k′ ns′) m)
 
 -- parts that are lent
@@ -107,7 +107,7 @@ module _ (key : List ℕ) (g : goodList Key key ≡ true) where
   module _ (ids ks is : List ℕ) (l : RowList) (e : l ≡ certified (rowList []) key ids ks is) where
     certified-fits : l ≡ rowList (certificates [] key ids ks is)
     certified-fits =
-        let m : length (certificates [] key ids ks is) ≤ 32 = let h = good-short Certificate (certificates [] key ids ks is) (good-certificates key ids ks is g) in omega arith in
+        let m : length (certificates [] key ids ks is) ≤ mostOwn = let h = good-short Certificate (certificates [] key ids ks is) (good-certificates key ids ks is g) in omega arith in
         e ∙ certified-list key ids [] ks is m
 
     certified-shown : shown l ≡ certificates [] key ids ks is
@@ -119,7 +119,7 @@ module _ (key : List ℕ) (g : goodList Key key ≡ true) where
   module _ (kinds : List ℕ) (h : RowList) (f : h ≡ joined (rowList []) (held kinds key)) where
     held-shown : shown h ≡ held kinds key
     held-shown =
-        let m : length {A = ℕ} [] + length (held kinds key) ≤ 32 = let a = good-short Key (held kinds key) (good-held Key kinds key g) in omega arith in
+        let m : length {A = ℕ} [] + length (held kinds key) ≤ mostOwn = let a = good-short Key (held kinds key) (good-held Key kinds key g) in omega arith in
         rw (f, joined-list [] (held kinds key) m) (shown-list (held kinds key))
 
     pub held-good : goodList Key (shown h) ≡ true

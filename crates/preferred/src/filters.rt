@@ -7,16 +7,15 @@ ghost use lib.ListN.{take};
 ghost use Rattle.answer.specs.Answer.{pick};
 ghost use Rattle.preferred.specs.Own.{member, without, held, ofKind, kindOf, rowList};
 ghost use Rattle.preferred.specs.Made.{shown, pushed, joined, joinedOnce, certified};
+use super::MOST_OWN;
 use super::RowList;
 use super::judge::shorter;
-
-const MOST_OWN: usize = 32;
 
 pub fn none() -> RowList
     ensures { λ r. ⌜ r ≡ rowList [] ⌝ }
 {
     RowList {
-        rows: [0u8; 32],
+        rows: [0u8; MOST_OWN],
         len: 0,
     }
 }
