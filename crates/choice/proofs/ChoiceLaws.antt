@@ -91,6 +91,7 @@ unfolding chosen firstShared first listed
 starts-chosen Client n own peer = rw (same-self n)
 starts-chosen Server n own peer = rw (same-self n)
 
+-- what both first says is so
 pub both-is : (side : Side) (own peer : List (List ℕ)) → bothFirst own peer ≡ true → Both side own peer
 unfolding bothFirst
 both-is side [] peer h = never (cc)
@@ -133,7 +134,6 @@ module _ (spells : ℕ → List ℕ → Bool) where
   chosen-one Server r [] = refl
   chosen-one Server r (name ∷ peer) = split (spells r name) (λ e. rw e) (λ e. rw e (chosen-one Server r peer))
 
--- tests that agree choose alike
 module _ (t u : ℕ → List ℕ → Bool) (agree : (r : ℕ) (name : List ℕ) → t r name ≡ u r name) where
   abbrev any : ℕ → Bool
   any r = true
@@ -147,6 +147,7 @@ module _ (t u : ℕ → List ℕ → Bool) (agree : (r : ℕ) (name : List ℕ) 
   offered-alike r [] = refl
   offered-alike r (name ∷ peer) = rw (agree r name, offered-alike r peer)
 
+  -- two tests that agree choose alike
   pub chosen-alike : (side : Side) (own : List ℕ) (peer : List (List ℕ)) → chosenRow t side own peer ≡ chosenRow u side own peer
   unfolding chosenRow ownFirst peerFirst rowFor
   chosen-alike Client own peer =
@@ -155,6 +156,7 @@ module _ (t u : ℕ → List ℕ → Bool) (agree : (r : ℕ) (name : List ℕ) 
   chosen-alike Server own (name ∷ peer) =
       rw (first-same t u name name any (λ r h. agree r name) own (every-any own), chosen-alike Server own peer)
 
+  -- and they say alike whether both are first
   pub both-alike : (own : List ℕ) (peer : List (List ℕ)) → firstBoth t own peer ≡ firstBoth u own peer
   unfolding firstBoth
   both-alike [] peer = refl
@@ -173,6 +175,7 @@ table-spells r name = rw (row-name allNames r)
 pub table-chosen : (side : Side) (own : List ℕ) (peer : List (List ℕ)) → chosenRow tableSpells side own peer ≡ chosenRow spellsName side own peer
 table-chosen side own peer = chosen-alike tableSpells spellsName table-spells side own peer
 
+-- and so is both first
 pub table-both : (own : List ℕ) (peer : List (List ℕ)) → firstBoth tableSpells own peer ≡ firstBoth spellsName own peer
 table-both own peer = both-alike tableSpells spellsName table-spells own peer
 

@@ -4,7 +4,7 @@ use mathlib.Core.Bool.{Bool, true, false}
 use mathlib.Core.List.{List, [], _∷_}
 use mathlib.Core.Option.{Option, some, none, orElse}
 use Prim.Native.Nat.{ℕ, _+_, _-_, _≤_, _<_}
-use native.Mathlib.Nat.{add-zero, add-sub-cancel-left}
+use native.Mathlib.Nat.{add-zero, add-sub-cancel-left, le-refl}
 use native.Mathlib.Numerals.{add-one}
 use native.Mathlib.Omega.{arith}
 use lib.ListN.{length, getD, take, drop}
@@ -148,7 +148,7 @@ pub ruleset both-laws = (name-inside, both-unlisted, both-unowned, both-firsts)
 
 pub ruleset peer-laws = (name-inside, name-less, peer-none, peer-here, peer-on)
 
-pub ruleset own-laws = (name-inside, name-less, own-start, own-count, own-done, own-within, own-on)
+pub ruleset own-laws = (le-refl, name-inside, name-less, own-start, own-count, own-done, own-within, own-on)
 
 -- by sides
 module _ (spells : ℕ → List ℕ → Bool) (own : List ℕ) (names : List (List ℕ)) (v : Option ℕ) where

@@ -94,8 +94,7 @@ fn peer_first(spellings: &[u8], starts: &[u16], lengths: &[u8], own: &[u8], list
     }
 }
 
-// A name that is shared leaves only the own rows before its own to look for, so each turn is as long as what may still
-// be better.
+// Once a name is shared, only an own row before its row can still be chosen, so no other is looked at again.
 fn own_first(spellings: &[u8], starts: &[u16], lengths: &[u8], own: &[u8], list: &[u8]) -> Chosen
     ensures { λ r. ⌜ chose r ≡ ownFirst (spellsIn (now (spellings .entry)) (now (starts .entry)) (now (lengths .entry))) (now (own .entry)) (cut (now (list .entry))) ⌝ }
 {

@@ -15,7 +15,7 @@ abbrev μ-loop : tie.MeasureT-loop
 μ-loop spellings starts lengths own list best₀ c₀ best c = length list - c .at
 
 loop-holds : tie.Need-loop-holds Inv-loop μ-loop
-loop-holds c = (search own-laws, search needs)
+loop-holds c = search own-laws
 
 returns : tie.Need-returns Inv-loop μ-loop
 returns c = search own-laws
