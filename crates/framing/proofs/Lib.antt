@@ -1,0 +1,4 @@
+mod CodeLaws
+mod OpeningLaws
+mod SealingLaws
+pub mod ClearLaws
