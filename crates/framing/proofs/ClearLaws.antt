@@ -1,16 +1,15 @@
 -- Laws of what is written: the padding, the bytes and the largest payload. Assumes nothing.
-use mathlib.Core.Path.{_≡_, refl, ap, sym, _∙_}
-use mathlib.Core.List.{List, [], _∷_, _++_}
+use mathlib.Core.Path.{_≡_, refl}
+use mathlib.Core.List.{List}
 use Prim.Native.Nat.{ℕ, _+_, _-_, _%_, _≤_, _<_}
 use native.Mathlib.Omega.{arith}
 use borrow.Author.Tests.{le-leb, lt-leb, ltb-true, ltb-false}
 use lib.Dec.{ltb}
-use lib.ListN.{length, replicate, length-append, length-replicate}
-use Rattle.answer.specs.Answer.{Out, refused, done, refuse, _>>=_}
+use lib.ListN.{length, length-append, length-replicate}
+use Rattle.answer.specs.Answer.{done, refuse, _>>=_}
 use Rattle.answer.proofs.Laws.{split}
-use Rattle.put.specs.Written.{word}
 use Rattle.put.proofs.PutLaws.{word-length}
-use Rattle.framing.specs.Clear.{mostLength, paddingLength, packetLength, judgedLength, frame, packetOf}
+use Rattle.framing.specs.Clear.{mostLength, mostPayload, paddingLength, packetLength, judgedLength, frame, packetOf}
 
 module _ (n : ℕ) where
   -- a packet has from 4 to 11 bytes of padding,
@@ -41,16 +40,22 @@ unfolding frame
 frame-length x =
     simp (length-append, length-replicate, word-length) (omega arith)
 
--- a payload of at most 262,167 bytes is written,
-pub short-written : (x : List ℕ) → length x ≤ 262167 → packetOf x ≡ done (frame x)
-unfolding packetOf judgedLength _>>=_
-short-written x h =
-    let l : packetLength (length x) ≤ mostLength = omega (arith, padding-most (length x), whole-eights (length x)) in
-    rw (le-leb (packetLength (length x)) mostLength l)
+module _ (x : List ℕ) where
+  -- a payload of at most 262,167 bytes is written,
+  pub short-written : length x ≤ mostPayload → packetOf x ≡ done (frame x)
+  unfolding packetOf judgedLength _>>=_
+  short-written h =
+      let l : packetLength (length x) ≤ mostLength = omega (arith, padding-most (length x), whole-eights (length x)) in
+      rw (le-leb (packetLength (length x)) mostLength l)
 
--- a longer one is refused with 4
-pub long-refused : (x : List ℕ) → 262167 < length x → packetOf x ≡ refuse 4
-unfolding packetOf judgedLength _>>=_
-long-refused x h =
-    let l : mostLength < packetLength (length x) = omega (arith, padding-least (length x), whole-eights (length x)) in
-    rw (lt-leb (packetLength (length x)) mostLength l)
+  -- a longer one is refused with 4
+  pub long-refused : mostPayload < length x → packetOf x ≡ refuse 4
+  unfolding packetOf judgedLength _>>=_
+  long-refused h =
+      let l : mostLength < packetLength (length x) = omega (arith, padding-least (length x), whole-eights (length x)) in
+      rw (lt-leb (packetLength (length x)) mostLength l)
+
+-- the packet of the largest payload has 262,176 bytes
+pub largest-total : packetLength mostPayload + 4 ≡ 262176
+unfolding paddingLength
+largest-total = refl

@@ -1,11 +1,11 @@
 -- From what the code tells on its way to an answer to what its contract says of that answer: judging, counting and
 -- padding. Assumes nothing.
-use mathlib.Core.Path.{_≡_, refl, sym, _∙_}
-use mathlib.Core.List.{List, [], _∷_}
+use mathlib.Core.Path.{_≡_}
+use mathlib.Core.List.{List}
 use Prim.Native.Nat.{ℕ, _+_, _-_, _%_, _^_, _≤_, _<_, min}
 use native.Mathlib.Omega.{arith}
 use borrow.Author.Tests.{le-leb, lt-leb, lt-ltb, le-ltb, eq-eqb, ne-eqb}
-use lib.ListN.{length, getD, set, replicate, length-replicate, replicate-append-replicate}
+use lib.ListN.{getD, set, replicate, length-replicate, replicate-append-replicate}
 use lib.Seq.{sets}
 use Rattle.answer.specs.declared.Refusal.{Refusal}
 use Rattle.answer.specs.Answer.{refused, done}

@@ -1,12 +1,12 @@
 -- Laws of writing: one for each answer that the code gives, in the words of the code's tests. Assumes nothing.
-use mathlib.Core.Path.{_≡_, refl, sym, ap, _∙_}
+use mathlib.Core.Path.{_≡_}
 use mathlib.Core.List.{List, [], _∷_, _++_}
 use Prim.Native.Nat.{ℕ, _+_, _≤_, _<_}
 use native.Mathlib.Omega.{arith}
 use borrow.Author.Tests.{leb-true}
 use lib.Dec.{leb}
-use lib.ListN.{length, replicate, length-append, length-set}
-use lib.Seq.{sets, length-sets}
+use lib.ListN.{length, replicate, length-append}
+use lib.Seq.{sets}
 use Rattle.answer.specs.declared.Refusal.{Refusal}
 use Rattle.answer.specs.Answer.{refused, done, _>>=_}
 use Rattle.answer.proofs.Laws.{split, not-both}

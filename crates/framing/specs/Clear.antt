@@ -1,10 +1,10 @@
 -- Clear packets (RFC 4253 section 6), as `read` and `write` of src/cipher/mod.rs and src/cipher/clear.rs take and make
 -- them: document 01, "Clear packets".
-use mathlib.Core.List.{List, [], _∷_, _++_}
+use mathlib.Core.List.{List, _∷_, _++_}
 use Prim.Native.Nat.{ℕ, _+_, _-_, _%_, min}
 use lib.Dec.{leb, ltb, eqb}
 use lib.ListN.{length, getD, replicate}
-use Rattle.answer.specs.Answer.{Out, refused, done, guard, pick, _>>=_}
+use Rattle.answer.specs.Answer.{Out, done, guard, pick, _>>=_}
 use Rattle.put.specs.Written.{word}
 use Rattle.wire.specs.Fields.{bigEndian}
 use Rattle.framing.specs.declared.Counters.{Counters}
@@ -25,6 +25,10 @@ paddingLength n = pick (ltb (8 - (5 + n) % 8) 4) (8 - (5 + n) % 8 + 8) (8 - (5 +
 -- "Packet length is 1 + n + p."
 abbrev pub packetLength : ℕ → ℕ
 packetLength n = 1 + n + paddingLength n
+
+-- "The largest payload is 262,167": a longer one is refused as every length over mostLength is (proofs/ClearLaws.antt).
+abbrev pub mostPayload : ℕ
+mostPayload = 262167
 
 -- Judging the length that a packet announces, or that is to be written.
 unfoldable pub judgedLength : ℕ → Out (Unit {0})

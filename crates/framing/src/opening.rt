@@ -28,10 +28,7 @@ fn padding_of(s: &[u8], len: usize) -> usize
 fn payload_len(plain: usize) -> usize
     ensures { λ r. ⌜ r ≡ plain - 1 ⌝ }
 {
-    if plain == 0 {
-        return 0;
-    }
-    plain - 1
+    if plain == 0 { 0 } else { plain - 1 }
 }
 
 // The payload starts at its end minus its length and not at 5: where the end is 4, the slice may end there too.

@@ -1,3 +1,4 @@
+-- The loop: the zeros written so far stand in place. The measure is what is left to write. Assumes nothing.
 use mathlib.Core.Path.{_≡_, ap, _∙_}
 use Prim.Native.Nat.{_≤_, _-_}
 use native.Mathlib.Omega.{arith}
