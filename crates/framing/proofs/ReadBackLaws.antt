@@ -10,7 +10,7 @@ use lib.Seq.{take-at}
 use Rattle.answer.specs.Answer.{done, _>>=_}
 use Rattle.answer.proofs.Laws.{split, un-done, not-both}
 use Rattle.put.specs.Written.{word, written, buffer}
-use Rattle.put.proofs.PutLaws.{front}
+use Rattle.put.proofs.PutLaws.{word-back, front}
 use Rattle.wire.specs.Shown.{shown}
 use Rattle.wire.proofs.ShowLaws.{inside}
 use Rattle.framing.specs.declared.Counters.{Counters}
@@ -42,7 +42,7 @@ packet-framed n k =
 module _ (x rest : List ℕ) (short : packetLength (length x) ≤ mostLength) where
   announces : announced (frame x ++ rest) ≡ packetLength (length x)
   unfolding frame word announced
-  announces = omega arith
+  announces = word-back (packetLength (length x)) _ _ _ _ (omega arith) refl
 
   pads : paddingOf (frame x ++ rest) (packetLength (length x)) ≡ paddingLength (length x)
   unfolding frame word paddingOf
