@@ -3,21 +3,21 @@ use mathlib.Core.Path.{_≡_, refl, ap, sym, _∙_}
 use mathlib.Core.List.{List, _++_, append-assoc}
 use Prim.Native.Nat.{ℕ, _+_, _-_, _≤_}
 use native.Mathlib.Omega.{arith}
-use borrow.Author.Tests.{le-leb, le-ltb, leb-true, leb-false, ne-eqb}
+use borrow.Author.Tests.{le-leb, le-ltb, leb-true, ne-eqb}
 use lib.Dec.{leb}
 use lib.ListN.{length, take, drop, replicate, length-append}
 use lib.Seq.{take-at}
 use Rattle.answer.specs.Answer.{done, _>>=_}
 use Rattle.answer.proofs.Laws.{split, un-done, not-both}
-use Rattle.put.specs.Written.{word, written, buffer}
-use Rattle.put.proofs.PutLaws.{word-back, front}
+use Rattle.put.specs.Written.{word, buffer}
+use Rattle.put.proofs.PutLaws.{word-back}
 use Rattle.wire.specs.Shown.{shown}
 use Rattle.wire.proofs.ShowLaws.{inside}
 use Rattle.framing.specs.declared.Counters.{Counters}
 use Rattle.framing.specs.declared.Packet.{Packet}
-use Rattle.framing.specs.Clear.{mostLength, mostPayload, paddingLength, packetLength, judgedLength, judgedPadding, counted, frame, packetOf, packet, announced, paddingOf, packetAt, opened, readPacket}
+use Rattle.framing.specs.Clear.{mostLength, paddingLength, packetLength, judgedLength, judgedPadding, counted, frame, packetOf, packet, announced, paddingOf, packetAt, opened, readPacket}
 use Rattle.framing.specs.Answers.{sealing}
-use Rattle.framing.proofs.ClearLaws.{frame-length, short-written, long-refused}
+use Rattle.framing.proofs.WriteLaws.{frame-length, short-written, each-sealing}
 
 -- s starts with a packet of n bytes whose payload is x
 pub record Reads (s x : List ℕ) (n : ℕ) (k : Counters) : Type 0 where
@@ -87,31 +87,12 @@ read-back x w rest k e =
     (λ t. rw (← (un-done (rw t at e))) (frame-back x rest (leb-true (packetLength (length x)) mostLength t) k))
     (λ t. absurd (not-both (sym (rw t at e))))
 
--- what was written, where a writer answers with a total
-pub record Written (out x : List ℕ) (n : ℕ) (k k′ : Counters) : Type 0 where
-  pub accepted : packetOf x ≡ done (frame x)
-  pub fits : n ≤ length out
-  pub total : n ≡ length (frame x)
-  pub counters : k′ ≡ counted (length x) k
-
-pub total-written : (out x : List ℕ) (n : ℕ) (k k′ : Counters) → sealing out x k ≡ done (n, k′) → Written out x n k k′
-unfolding sealing written _>>=_
-total-written out x n k k′ e =
-    split (leb (length x) mostPayload)
-    (λ t.
-    let f = short-written x (leb-true (length x) mostPayload t) in
-    split (leb (0 + length (frame x)) (length out))
-    (λ u.
-    let d = un-done (rw (f, u) at e) in
-    let m = ap (λ (y : ℕ × Counters). y .0) d in
-    let l = leb-true (0 + length (frame x)) (length out) u in
-    record { accepted = f; fits = omega arith; total = omega arith; counters = sym (ap (λ (y : ℕ × Counters). y .1) d) })
-    (λ u. absurd (not-both (sym (rw (f, u) at e)))))
-    (λ t. absurd (not-both (sym (rw (long-refused x (leb-false (length x) mostPayload t)) at e))))
-
--- the lent output then starts with that packet: `write` and `read` are one another's inverse
+-- where a writer answers with a total, the lent output then starts with that packet: `read` takes what `write` wrote
 pub written-back : (out x : List ℕ) (n : ℕ) (j j′ k : Counters) → sealing out x j ≡ done (n, j′) → Reads (buffer out 0 (packetOf x)) x n k
-written-back out x n j j′ k e =
-    let w = total-written out x n j j′ e in
-    let h : 0 + length (frame x) ≤ length out = omega arith in
-    rw (w .accepted, front out 0 (frame x) h, w .total) (read-back x (frame x) (drop (0 + length (frame x)) out) k (w .accepted))
+written-back out x n j j′ k =
+    each-sealing (λ a b. a ≡ done (n, j′) → Reads b x n k) out x j
+    (λ h e. absurd (not-both (sym e)))
+    (λ h g e. absurd (not-both (sym e)))
+    (λ h g e.
+    let m : packetLength (length x) + 4 ≡ n = ap (λ (y : ℕ × Counters). y .0) (un-done e) in
+    rw (← m, ← (frame-length x)) (read-back x (frame x) (drop (length (frame x)) out) k (short-written x h)))

@@ -1,5 +1,5 @@
 -- Laws of what is read: when each answer is given, and what a caller may rely on. Assumes nothing.
-use mathlib.Core.Path.{_≡_, ap, sym}
+use mathlib.Core.Path.{_≡_, sym}
 use mathlib.Core.List.{List}
 use Prim.Native.Nat.{ℕ, _+_, _-_, _≤_, _<_}
 use native.Mathlib.Omega.{arith}
@@ -7,17 +7,15 @@ use borrow.Author.Tests.{ltb-true, ltb-false, leb-true, leb-false}
 use lib.Dec.{leb, ltb}
 use lib.ListN.{length}
 use Rattle.answer.specs.Answer.{Out, done, refuse, _>>=_}
-use Rattle.answer.proofs.Laws.{split, un-done, not-both}
+use Rattle.answer.proofs.Laws.{split, not-both}
 use Rattle.wire.specs.Shown.{shown, part}
 use Rattle.wire.proofs.ShowLaws.{inside}
 use Rattle.framing.specs.declared.Counters.{Counters}
 use Rattle.framing.specs.declared.Packet.{Packet}
 use Rattle.framing.specs.declared.GotPacket.{GotPacket}
 use Rattle.framing.specs.declared.GotPacket.the-variants.{Need, Whole, Refused as NoPacket}
-use Rattle.framing.specs.declared.Sealed.{Sealed}
-use Rattle.framing.specs.declared.Sealed.the-variants.{Total, Refused as NotSealed}
 use Rattle.framing.specs.Clear.{mostLength, Read, need, packet, announced, paddingOf, packetAt, opened, readPacket, judgedLength, judgedPadding}
-use Rattle.framing.specs.Answers.{gotPacket, wrote}
+use Rattle.framing.specs.Answers.{gotPacket}
 
 -- The five answers, each with all that leads to it: what holds of each of them holds of whatever is read.
 pub each-answer : (P : Out Read → Type 0) (s : List ℕ) (k : Counters) → (length s < 4 → P (done (need 4)))
@@ -89,13 +87,3 @@ got-unique (Whole p) (NoPacket r) e = cc
 got-unique (NoPacket q) (Need n) e = cc
 got-unique (NoPacket q) (Whole p) e = cc
 got-unique (NoPacket q) (NoPacket r) e = cc
-
-pub wrote-unique : (a b : Sealed) → wrote a ≡ wrote b → a ≡ b
-wrote-unique (Total m j) (Total n k) e =
-    let d = un-done e in
-    let p = ap (λ (x : ℕ × Counters). x .0) d in
-    let q = ap (λ (x : ℕ × Counters). x .1) d in
-    cc
-wrote-unique (Total m j) (NotSealed r) e = cc
-wrote-unique (NotSealed q) (Total n k) e = cc
-wrote-unique (NotSealed q) (NotSealed r) e = cc

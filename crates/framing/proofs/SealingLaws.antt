@@ -19,7 +19,7 @@ use Rattle.wire.proofs.FieldLaws.{No}
 use Rattle.framing.specs.declared.Counters.{Counters}
 use Rattle.framing.specs.Clear.{mostLength, paddingLength, packetLength, judgedLength, frame, packetOf, counted}
 use Rattle.framing.specs.Answers.{sealing}
-use Rattle.framing.proofs.ClearLaws.{frame-length}
+use Rattle.framing.proofs.WriteLaws.{frame-length}
 
 -- the four stores of a packet
 pub sealed : (out out₁ out₂ out₃ out₄ payload : List ℕ) (padding len : ℕ) → padding ≡ paddingLength (length payload)

@@ -26,7 +26,7 @@ paddingLength n = pick (ltb (8 - (5 + n) % 8) 4) (8 - (5 + n) % 8 + 8) (8 - (5 +
 abbrev pub packetLength : ℕ → ℕ
 packetLength n = 1 + n + paddingLength n
 
--- "The largest payload is 262,167": a longer one is refused as every length over mostLength is (proofs/ClearLaws.antt).
+-- "The largest payload is 262,167": a longer one is refused as every length over mostLength is (proofs/WriteLaws.antt).
 abbrev pub mostPayload : ℕ
 mostPayload = 262167
 
