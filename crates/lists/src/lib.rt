@@ -12,7 +12,7 @@ ghost use Rattle.wire.specs.Names.{join};
 ghost use Rattle.wire.specs.Shown.{bytesOf};
 ghost use Rattle.names.specs.Spelled.{rowName};
 ghost use Rattle.lists.specs.Lists.{listBy, nameListOf};
-ghost use Rattle.lists.specs.Texts.{named, texts, most, sizeFrom, nextOr};
+ghost use Rattle.lists.specs.Texts.{named, texts, part, most, sizeFrom, nextOr};
 
 use answer::refuse;
 use names::inside;
@@ -68,4 +68,39 @@ fn after(p: Put, at: usize) -> usize
         Put::Next(n) => n,
         Put::Refused(_) => at,
     }
+}
+
+fn store(out: &mut [u8], at: usize, x: &[u8]) -> usize
+    requires { ⌜ at + length (now x) ≤ length (now out) ⌝ }
+    ensures next { λ r. ⌜ r ≡ at + length (now (x .entry)) ⌝ }
+    ensures bytes { λ r. ⌜ now (out .exit) ≡ sets (now (out .entry)) at (now (x .entry)) ⌝ }
+{
+    after(put::put_bytes(out, at, x), at)
+}
+
+fn store_part(spellings: &[u8], starts: &[u16], lengths: &[u8], row: u8, out: &mut [u8], at: usize) -> usize
+    requires { ⌜ at + length (part (rowName (now spellings) (now starts) (now lengths) row)) ≤ length (now out) ⌝ }
+    ensures next { λ r. ⌜ r ≡ at + length (part (rowName (now (spellings .entry)) (now (starts .entry)) (now (lengths .entry)) row)) ⌝ }
+    ensures bytes { λ r. ⌜ now (out .exit) ≡ sets (now (out .entry)) at (part (rowName (now (spellings .entry)) (now (starts .entry)) (now (lengths .entry)) row)) ⌝ }
+{
+    let p = store(out, at, spelling(spellings, starts, lengths, wide(row)));
+    store(out, p, b",")
+}
+
+fn store_names(spellings: &[u8], starts: &[u16], lengths: &[u8], rows: &[u8], out: &mut [u8], at: usize) -> usize
+    requires { ⌜ at + length (join (texts (rowName (now spellings) (now starts) (now lengths)) (now rows))) ≤ length (now out) ⌝ }
+    ensures next { λ r. ⌜ r ≡ at + length (join (texts (rowName (now (spellings .entry)) (now (starts .entry)) (now (lengths .entry))) (now (rows .entry)))) ⌝ }
+    ensures bytes { λ r. ⌜ now (out .exit) ≡ sets (now (out .entry)) at (join (texts (rowName (now (spellings .entry)) (now (starts .entry)) (now (lengths .entry))) (now (rows .entry)))) ⌝ }
+{
+    if rows.len() == 0 {
+        return at;
+    }
+    let last = rows.len() - 1;
+    let mut p = at;
+    let mut i = 0;
+    while i < last {
+        p = store_part(spellings, starts, lengths, rows[i], out, p);
+        i += 1;
+    }
+    store(out, p, spelling(spellings, starts, lengths, wide(rows[last])))
 }
