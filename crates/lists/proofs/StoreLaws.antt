@@ -6,8 +6,8 @@ use native.Mathlib.Omega.{arith}
 use lib.ListN.{length, getD, drop, length-append, drop-of-length-le}
 use lib.Seq.{sets, length-sets}
 use Rattle.answer.specs.Answer.{Out, refused, done}
-use Rattle.put.specs.Written.{written, buffer}
-use Rattle.put.proofs.PutLaws.{sets-append, written-fits, buffer-fits}
+use Rattle.put.specs.Written.{written, buffer, word}
+use Rattle.put.proofs.PutLaws.{sets-append, written-fits, buffer-fits, word-length}
 use Rattle.wire.specs.Names.{join}
 use Rattle.wire.specs.Shown.{bytesOf}
 use Rattle.names.specs.Spelled.{rowName}
@@ -126,3 +126,31 @@ pub no-names : (name : ℕ → Out (List ℕ)) (rows out : List ℕ) (at : ℕ) 
 unfolding texts join
 no-names name [] out at h = (omega arith, refl)
 no-names name (r ∷ rs) out at h = absurd (omega arith)
+
+-- the length in front of the names
+module _ (len : ℕ) (names : List (List ℕ)) (out : List ℕ) (at : ℕ) (fits : at + (4 + length (join names)) ≤ length out) where
+  abbrev x : List ℕ
+  x = join names
+
+  list-room : at + length (word len ++ x) ≤ length out
+  list-room = rw (length-append, word-length) fits
+
+  head-room : at + length (word len) ≤ length out
+  head-room = piece-room _ _ _ _ _ _ (left-all out at (word len ++ x) list-room) (word len) x refl
+
+  module _ (out₁ : List ℕ) (q : Out ℕ) (p : ℕ)
+      (told : (q ≡ written out at (done (word len))) × (out₁ ≡ buffer out at (done (word len)))) (next : p ≡ nextOr q at) where
+    headed : Left out at (word len ++ x) out₁ p x
+    headed =
+        left-after _ _ _ _ _ _ (left-all out at (word len ++ x) list-room) (word len) x refl out₁ p
+        (put-next out (word len) at head-room q p (told .0) next)
+        (put-bytes out (word len) at head-room out₁ (told .1))
+
+    pub tail-room : p + length x ≤ length out₁
+    tail-room = headed .room
+
+    pub list-whole : (out₂ : List ℕ) (r : ℕ) → (r ≡ p + length x) × (out₂ ≡ sets out₁ p x)
+        → (r ≡ at + (4 + length x)) × (out₂ ≡ sets out at (word len ++ x))
+    list-whole out₂ r h =
+        let d = left-none _ _ _ _ _ (left-after _ _ _ _ _ _ headed x [] (sym (append-nil x)) out₂ r (h .0) (h .1)) in
+        (rw (length-append, word-length) at (d .0), d .1)

@@ -1,10 +1,8 @@
 // Name-lists written of rows of the name tables (RFC 4251 section 5): first every row is judged, then the list is
 // measured, then it is written, so that a refusal changes nothing.
-ghost use mathlib.Core.Bool.{Bool};
 ghost use mathlib.Core.List.{[], _∷_, _++_};
 ghost use mathlib.Core.Path.{_≡_};
 ghost use Prim.Native.Nat.{_+_, _-_, _≤_, min};
-ghost use lib.Dec.{leb};
 ghost use lib.ListN.{length};
 ghost use lib.Seq.{sets};
 ghost use Rattle.put.specs.Written.{written, buffer, put, word};
@@ -103,4 +101,51 @@ fn store_names(spellings: &[u8], starts: &[u16], lengths: &[u8], rows: &[u8], ou
         i += 1;
     }
     store(out, p, spelling(spellings, starts, lengths, wide(rows[last])))
+}
+
+fn store_list(spellings: &[u8], starts: &[u16], lengths: &[u8], rows: &[u8], len: u32, out: &mut [u8], at: usize) -> usize
+    requires { ⌜ at + (4 + length (join (texts (rowName (now spellings) (now starts) (now lengths)) (now rows)))) ≤ length (now out) ⌝ }
+    ensures next { λ r. ⌜ r ≡ at + (4 + length (join (texts (rowName (now (spellings .entry)) (now (starts .entry)) (now (lengths .entry))) (now (rows .entry))))) ⌝ }
+    ensures bytes { λ r. ⌜ now (out .exit) ≡ sets (now (out .entry)) at (word len ++ join (texts (rowName (now (spellings .entry)) (now (starts .entry)) (now (lengths .entry))) (now (rows .entry)))) ⌝ }
+{
+    let p = after(put::put_u32(out, at, len), at);
+    store_names(spellings, starts, lengths, rows, out, p)
+}
+
+// The length of a list, from that with a comma after each name.
+fn less(total: usize) -> usize
+    ensures { λ r. ⌜ r ≡ total - 1 ⌝ }
+{
+    if total == 0 { 0 } else { total - 1 }
+}
+
+// The list of rows of any three columns.
+pub fn put_rows(spellings: &[u8], starts: &[u16], lengths: &[u8], rows: &[u8], out: &mut [u8], at: usize) -> Put
+    ensures answer { λ r. ⌜ put r ≡ written (now (out .entry)) at (listBy (rowName (now (spellings .entry)) (now (starts .entry)) (now (lengths .entry))) (now (rows .entry))) ⌝ }
+    ensures bytes { λ r. ⌜ now (out .exit) ≡ buffer (now (out .entry)) at (listBy (rowName (now (spellings .entry)) (now (starts .entry)) (now (lengths .entry))) (now (rows .entry))) ⌝ }
+{
+    if !known(spellings, starts, lengths, rows) {
+        return Put::Refused(refuse(9));
+    }
+    let total = size(spellings, starts, lengths, rows);
+    if MOST <= total {
+        return Put::Refused(refuse(1));
+    }
+    let len = less(total);
+    // By a difference, since a sum could wrap.
+    if out.len() < at {
+        return Put::Refused(refuse(8));
+    }
+    if out.len() - at < 4 + len {
+        return Put::Refused(refuse(8));
+    }
+    Put::Next(store_list(spellings, starts, lengths, rows, len as u32, out, at))
+}
+
+// The list of rows of the one table, so that key and certificate names can stand in one list.
+pub fn put_name_list(rows: &[u8], out: &mut [u8], at: usize) -> Put
+    ensures answer { λ r. ⌜ put r ≡ written (now (out .entry)) at (nameListOf (now (rows .entry))) ⌝ }
+    ensures bytes { λ r. ⌜ now (out .exit) ≡ buffer (now (out .entry)) at (nameListOf (now (rows .entry))) ⌝ }
+{
+    put_rows(&tables::SPELLINGS, &tables::STARTS, &tables::LENGTHS, rows, out, at)
 }

@@ -1,3 +1,4 @@
+pub mod WriterLaws
 pub mod RowLaws
 pub mod ColumnLaws
 pub mod PlaceLaws
