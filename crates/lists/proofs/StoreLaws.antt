@@ -42,12 +42,12 @@ module _ (whole : List ℕ) (at : ℕ) (x out : List ℕ) (p : ℕ) (y : List �
   pub left-after : (out′ : List ℕ) (p′ : ℕ) → p′ ≡ p + length a → out′ ≡ sets out p a → Left whole at x out′ p′ b
   left-after out′ p′ e f =
       let l : length out′ ≡ length out = rw f (length-sets out p a) in
-      record
-        { room = omega (arith, left .room, sizes)
-        ; end = left .end ∙ sizes ∙ ap (λ (n : ℕ). n + length b) (sym e)
-        ; bytes = left .bytes ∙ rw (e, f, cut, sets-append)
-        ; kept = l ∙ left .kept
-        }
+      record {
+        room = omega (arith, left .room, sizes);
+        end = left .end ∙ sizes ∙ ap (λ (n : ℕ). n + length b) (sym e);
+        bytes = left .bytes ∙ rw (e, f, cut, sets-append);
+        kept = l ∙ left .kept;
+      }
 
 pub left-none : (whole : List ℕ) (at : ℕ) (x out : List ℕ) (p : ℕ) → Left whole at x out p [] → (p ≡ at + length x) × (out ≡ sets whole at x)
 left-none whole at x out p left = (omega (arith, left .end), sym (left .bytes))

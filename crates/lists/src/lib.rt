@@ -11,7 +11,6 @@ ghost use Rattle.wire.specs.Shown.{bytesOf};
 ghost use Rattle.names.specs.Spelled.{rowName};
 ghost use Rattle.lists.specs.Lists.{listBy, nameListOf};
 ghost use Rattle.lists.specs.Texts.{named, texts, part, most, sizeFrom, nextOr};
-
 use answer::refuse;
 use names::inside;
 use names::spelling;
@@ -53,7 +52,10 @@ fn size(spellings: &[u8], starts: &[u16], lengths: &[u8], rows: &[u8]) -> usize
     let mut total = 0;
     let mut i = 0;
     while i < rows.len() {
-        total = counted(total, spelling(spellings, starts, lengths, wide(rows[i])).len());
+        total = counted(
+            total,
+            spelling(spellings, starts, lengths, wide(rows[i])).len(),
+        );
         i += 1;
     }
     total
@@ -76,7 +78,14 @@ fn store(out: &mut [u8], at: usize, x: &[u8]) -> usize
     after(put::put_bytes(out, at, x), at)
 }
 
-fn store_part(spellings: &[u8], starts: &[u16], lengths: &[u8], row: u8, out: &mut [u8], at: usize) -> usize
+fn store_part(
+    spellings: &[u8],
+    starts: &[u16],
+    lengths: &[u8],
+    row: u8,
+    out: &mut [u8],
+    at: usize,
+) -> usize
     requires { ⌜ at + length (part (rowName (now spellings) (now starts) (now lengths) row)) ≤ length (now out) ⌝ }
     ensures next { λ r. ⌜ r ≡ at + length (part (rowName (now (spellings .entry)) (now (starts .entry)) (now (lengths .entry)) row)) ⌝ }
     ensures bytes { λ r. ⌜ now (out .exit) ≡ sets (now (out .entry)) at (part (rowName (now (spellings .entry)) (now (starts .entry)) (now (lengths .entry)) row)) ⌝ }
@@ -85,7 +94,14 @@ fn store_part(spellings: &[u8], starts: &[u16], lengths: &[u8], row: u8, out: &m
     store(out, p, b",")
 }
 
-fn store_names(spellings: &[u8], starts: &[u16], lengths: &[u8], rows: &[u8], out: &mut [u8], at: usize) -> usize
+fn store_names(
+    spellings: &[u8],
+    starts: &[u16],
+    lengths: &[u8],
+    rows: &[u8],
+    out: &mut [u8],
+    at: usize,
+) -> usize
     requires { ⌜ at + length (join (texts (rowName (now spellings) (now starts) (now lengths)) (now rows))) ≤ length (now out) ⌝ }
     ensures next { λ r. ⌜ r ≡ at + length (join (texts (rowName (now (spellings .entry)) (now (starts .entry)) (now (lengths .entry))) (now (rows .entry)))) ⌝ }
     ensures bytes { λ r. ⌜ now (out .exit) ≡ sets (now (out .entry)) at (join (texts (rowName (now (spellings .entry)) (now (starts .entry)) (now (lengths .entry))) (now (rows .entry)))) ⌝ }
@@ -100,10 +116,22 @@ fn store_names(spellings: &[u8], starts: &[u16], lengths: &[u8], rows: &[u8], ou
         p = store_part(spellings, starts, lengths, rows[i], out, p);
         i += 1;
     }
-    store(out, p, spelling(spellings, starts, lengths, wide(rows[last])))
+    store(
+        out,
+        p,
+        spelling(spellings, starts, lengths, wide(rows[last])),
+    )
 }
 
-fn store_list(spellings: &[u8], starts: &[u16], lengths: &[u8], rows: &[u8], len: u32, out: &mut [u8], at: usize) -> usize
+fn store_list(
+    spellings: &[u8],
+    starts: &[u16],
+    lengths: &[u8],
+    rows: &[u8],
+    len: u32,
+    out: &mut [u8],
+    at: usize,
+) -> usize
     requires { ⌜ at + (4 + length (join (texts (rowName (now spellings) (now starts) (now lengths)) (now rows)))) ≤ length (now out) ⌝ }
     ensures next { λ r. ⌜ r ≡ at + (4 + length (join (texts (rowName (now (spellings .entry)) (now (starts .entry)) (now (lengths .entry))) (now (rows .entry))))) ⌝ }
     ensures bytes { λ r. ⌜ now (out .exit) ≡ sets (now (out .entry)) at (word len ++ join (texts (rowName (now (spellings .entry)) (now (starts .entry)) (now (lengths .entry))) (now (rows .entry)))) ⌝ }
@@ -120,7 +148,14 @@ fn less(total: usize) -> usize
 }
 
 // The list of rows of any three columns.
-pub fn put_rows(spellings: &[u8], starts: &[u16], lengths: &[u8], rows: &[u8], out: &mut [u8], at: usize) -> Put
+pub fn put_rows(
+    spellings: &[u8],
+    starts: &[u16],
+    lengths: &[u8],
+    rows: &[u8],
+    out: &mut [u8],
+    at: usize,
+) -> Put
     ensures answer { λ r. ⌜ put r ≡ written (now (out .entry)) at (listBy (rowName (now (spellings .entry)) (now (starts .entry)) (now (lengths .entry))) (now (rows .entry))) ⌝ }
     ensures bytes { λ r. ⌜ now (out .exit) ≡ buffer (now (out .entry)) at (listBy (rowName (now (spellings .entry)) (now (starts .entry)) (now (lengths .entry))) (now (rows .entry))) ⌝ }
 {
@@ -147,5 +182,12 @@ pub fn put_name_list(rows: &[u8], out: &mut [u8], at: usize) -> Put
     ensures answer { λ r. ⌜ put r ≡ written (now (out .entry)) at (nameListOf (now (rows .entry))) ⌝ }
     ensures bytes { λ r. ⌜ now (out .exit) ≡ buffer (now (out .entry)) at (nameListOf (now (rows .entry))) ⌝ }
 {
-    put_rows(&tables::SPELLINGS, &tables::STARTS, &tables::LENGTHS, rows, out, at)
+    put_rows(
+        &tables::SPELLINGS,
+        &tables::STARTS,
+        &tables::LENGTHS,
+        rows,
+        out,
+        at,
+    )
 }

@@ -16,15 +16,15 @@ use Rattle.names.proofs.TableLaws.{kind-part, kind-rows, row-count, num
 
 pub kind-row : (k : Kind) (name : List ℕ) (from count : ℕ) → from ≡ firstRow k → count ≡ length (namesOf k)
     → rowFrom (flat allNames) (starts 0 allNames) (lengths allNames) name from (from + count - from)
-      ≡ onward (firstRow k) (numberOf k name)
+    ≡ onward (firstRow k) (numberOf k name)
 unfolding numberOf
 kind-row k name from count p q =
     let e : from + count - from ≡ count = omega arith in
     let h : firstRow k + length (namesOf k) ≤ length allNames = rw row-count (kind-rows k) in
     rw (e, p, q)
     (row-place allNames name (length (namesOf k)) (firstRow k) h
-      ∙ ap (placeFrom (firstRow k) name) (kind-part k)
-      ∙ place-from name (namesOf k) (firstRow k))
+    ∙ ap (placeFrom (firstRow k) name) (kind-part k)
+    ∙ place-from name (namesOf k) (firstRow k))
 
 pub kind-room : (k : Kind) (from count : ℕ) → from ≡ firstRow k → count ≡ length (namesOf k) → from + count ≤ 44
 kind-room k from count p q = rw (p, q) (kind-rows k)

@@ -74,10 +74,10 @@ place-found name [] i m h = let z : _≡_ {A = ℕ} 0 1 = cc in absurd (omega ar
 place-found name (x ∷ xs) i m h =
     split (same x name)
     (λ e. let z : i ≡ m = some-inj i m (rw e at h) in let s : m - i ≡ 0 = omega arith in
-      record { from = omega arith; below = rw s (omega arith); spelt = rw s (same-equal x name e) })
+    record { from = omega arith; below = rw s (omega arith); spelt = rw s (same-equal x name e) })
     (λ e. let s = place-found name xs (i + 1) m (rw e at h) in
-      let d : m - i ≡ suc (m - (i + 1)) = omega (arith, s .from) in
-      record { from = omega (arith, s .from); below = rw d (omega (arith, s .below)); spelt = rw d (s .spelt) })
+    let d : m - i ≡ suc (m - (i + 1)) = omega (arith, s .from) in
+    record { from = omega (arith, s .from); below = rw d (omega (arith, s .below)); spelt = rw d (s .spelt) })
 
 -- places counted from i
 place-onward : (name : List ℕ) (xs : List (List ℕ)) (i j : ℕ) → placeFrom (i + j) name xs ≡ onward i (placeFrom j name xs)

@@ -73,12 +73,12 @@ module _ (spellings starts lengths : List ℕ) (n : ℕ) where
   row-either =
       split (ltb n (length starts))
       (λ e. let g = ltb-true n (length starts) e in
-        split (ltb n (length lengths))
-        (λ f. let k = ltb-true n (length lengths) f in
-          split ends
-          (λ o. inr (record { start = g; len = k; end = leb-true _ _ o; name = in-both g k ∙ pass 9 ends (λ _. done spelt) o }))
-          (λ o. inl (in-both g k ∙ stop 9 ends (λ _. done spelt) o)))
-        (λ f. inl (out-lengths g (ltb-false n (length lengths) f))))
+      split (ltb n (length lengths))
+      (λ f. let k = ltb-true n (length lengths) f in
+      split ends
+      (λ o. inr (record { start = g; len = k; end = leb-true _ _ o; name = in-both g k ∙ pass 9 ends (λ _. done spelt) o }))
+      (λ o. inl (in-both g k ∙ stop 9 ends (λ _. done spelt) o)))
+      (λ f. inl (out-lengths g (ltb-false n (length lengths) f))))
       (λ e. inl (out-starts (ltb-false n (length starts) e)))
 
   pub outside-starts : length starts ≤ n → false ≡ there (rowName spellings starts lengths n)
@@ -154,16 +154,16 @@ module _ (w : Out (List ℕ)) (name : List ℕ) (b : Bool) (tested : b ≡ there
   pub spells-outside : b ≡ false → false ≡ is w name
   spells-outside h = outside w (sym h ∙ tested)
     where
-    outside : (v : Out (List ℕ)) → false ≡ there v → false ≡ is v name
-    outside (refused r) e = refl
-    outside (done x) e = absurd (false≢true e)
+      outside : (v : Out (List ℕ)) → false ≡ there v → false ≡ is v name
+      outside (refused r) e = refl
+      outside (done x) e = absurd (false≢true e)
 
   pub spells-inside : (x : List ℕ) (r : Bool) → b ≡ true → x ≡ bytesOf w → r ≡ same x name → r ≡ is w name
   spells-inside x r h e s = s ∙ ap (λ (y : List ℕ). same y name) e ∙ inside w (sym tested ∙ h)
     where
-    inside : (v : Out (List ℕ)) → there v ≡ true → same (bytesOf v) name ≡ is v name
-    inside (refused q) e = absurd (false≢true e)
-    inside (done y) e = refl
+      inside : (v : Out (List ℕ)) → there v ≡ true → same (bytesOf v) name ≡ is v name
+      inside (refused q) e = absurd (false≢true e)
+      inside (done y) e = refl
 
 -- the walk over the rows: what is left still gives the answer
 module _ (spellings starts lengths name : List ℕ) (i to : ℕ) (whole : Option ℕ)

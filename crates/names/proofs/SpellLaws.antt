@@ -32,5 +32,11 @@ module _ (k : Kind) (number n : ℕ) (e : n ≡ number) (count : ℕ) (c : count
     row-spells =
         let l : number < length (namesOf k) = omega arith in
         let m : firstRow k + number < length allNames = omega (arith, kind-rows k, row-count) in
-        rw (e, f, row-name allNames (firstRow k + number), entry-in [] allNames (firstRow k + number) m, row-of k number l,
-          entry-in [] (namesOf k) number l)
+        rw (
+          e,
+          f,
+          row-name allNames (firstRow k + number),
+          entry-in [] allNames (firstRow k + number) m,
+          row-of k number l,
+          entry-in [] (namesOf k) number l,
+        )

@@ -3,7 +3,6 @@ ghost use mathlib.Core.Path.{_≡_};
 ghost use lib.ListN.{length};
 ghost use Rattle.names.specs.Tables.{namesOf, firstRow};
 ghost use Rattle.names.specs.Spelled.{flag, needsMac, builtInIntegrity};
-
 use answer::Refusal;
 
 mod numbers;
@@ -21,9 +20,13 @@ pub use spell::put_name;
 
 // "Each kind of number has a type of its own, so a MAC number can't be used as a cipher number."
 pub struct KexId(pub u8);
+
 pub struct KeyId(pub u8);
+
 pub struct CipherId(pub u8);
+
 pub struct MacId(pub u8);
+
 pub struct CompressionId(pub u8);
 
 // Whose table a number counts in. A certificate's number is its key's.

@@ -2,7 +2,6 @@
 ghost use mathlib.Core.Path.{_≡_};
 ghost use Rattle.names.specs.Tables.{firstRow};
 ghost use Rattle.names.specs.Lookup.{numberOf, found, row, onward};
-
 use super::Found;
 use super::Kind;
 use super::Row;
@@ -15,7 +14,14 @@ fn row_of(kind: Kind, name: &[u8]) -> Row
 {
     let from = kind.first_row();
     let to = from + kind.count();
-    rows::find(&tables::SPELLINGS, &tables::STARTS, &tables::LENGTHS, from, to, name)
+    rows::find(
+        &tables::SPELLINGS,
+        &tables::STARTS,
+        &tables::LENGTHS,
+        from,
+        to,
+        name,
+    )
 }
 
 pub fn lookup(kind: Kind, name: &[u8]) -> Found

@@ -7,11 +7,10 @@ ghost use mathlib.Core.Bool.{false};
 ghost use Rattle.names.specs.Spelled.{rowName, there, entry, flag};
 ghost use Rattle.put.specs.Written.{written, buffer, put};
 ghost use Rattle.names.specs.Lookup.{rowFrom, is, row};
-
-use answer::refuse;
-use put::Put;
 use super::Flag;
 use super::Row;
+use answer::refuse;
+use put::Put;
 
 // A byte as an index, with its bound.
 pub fn wide(x: u8) -> usize
@@ -67,7 +66,14 @@ fn spells(spellings: &[u8], starts: &[u16], lengths: &[u8], row: usize, name: &[
 }
 
 // The first row from `from` on, and before `to`, that spells the name.
-pub fn find(spellings: &[u8], starts: &[u16], lengths: &[u8], from: usize, to: usize, name: &[u8]) -> Row
+pub fn find(
+    spellings: &[u8],
+    starts: &[u16],
+    lengths: &[u8],
+    from: usize,
+    to: usize,
+    name: &[u8],
+) -> Row
     ensures { λ r. ⌜ row r ≡ rowFrom (now (spellings .entry)) (now (starts .entry)) (now (lengths .entry)) (now (name .entry)) from (to - from) ⌝ }
 {
     let mut i = from;
@@ -81,7 +87,14 @@ pub fn find(spellings: &[u8], starts: &[u16], lengths: &[u8], from: usize, to: u
 }
 
 // The name that a row spells.
-pub fn put_row(spellings: &[u8], starts: &[u16], lengths: &[u8], row: usize, out: &mut [u8], at: usize) -> Put
+pub fn put_row(
+    spellings: &[u8],
+    starts: &[u16],
+    lengths: &[u8],
+    row: usize,
+    out: &mut [u8],
+    at: usize,
+) -> Put
     ensures answer { λ r. ⌜ put r ≡ written (now (out .entry)) at (rowName (now (spellings .entry)) (now (starts .entry)) (now (lengths .entry)) row) ⌝ }
     ensures bytes { λ r. ⌜ now (out .exit) ≡ buffer (now (out .entry)) at (rowName (now (spellings .entry)) (now (starts .entry)) (now (lengths .entry)) row) ⌝ }
 {

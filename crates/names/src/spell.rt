@@ -3,9 +3,6 @@ ghost use mathlib.Core.Path.{_≡_};
 ghost use Rattle.put.specs.Written.{written, buffer, put};
 ghost use Rattle.names.specs.Spelled.{spelled};
 ghost use Rattle.names.specs.declared.Kind.the-variants.{Kex, Key, Certificate, Cipher, Mac, Compression};
-
-use answer::refuse;
-use put::Put;
 use super::CipherId;
 use super::CompressionId;
 use super::KexId;
@@ -14,6 +11,8 @@ use super::Kind;
 use super::MacId;
 use super::rows;
 use super::tables;
+use answer::refuse;
+use put::Put;
 
 pub fn put_name(kind: Kind, number: u8, out: &mut [u8], at: usize) -> Put
     ensures answer { λ r. ⌜ put r ≡ written (now (out .entry)) at (spelled kind number) ⌝ }
@@ -24,7 +23,14 @@ pub fn put_name(kind: Kind, number: u8, out: &mut [u8], at: usize) -> Put
         return Put::Refused(refuse(9));
     }
     let row = kind.first_row() + n;
-    rows::put_row(&tables::SPELLINGS, &tables::STARTS, &tables::LENGTHS, row, out, at)
+    rows::put_row(
+        &tables::SPELLINGS,
+        &tables::STARTS,
+        &tables::LENGTHS,
+        row,
+        out,
+        at,
+    )
 }
 
 impl KexId {
