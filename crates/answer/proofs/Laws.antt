@@ -1,7 +1,9 @@
 -- Laws of answers that every layer cites. Assumes nothing.
 use mathlib.Core.Path.{_≡_, refl}
-use mathlib.Core.Bool.{Bool, true, false}
+use mathlib.Core.Bool.{Bool, true, false, not, _&&_}
 use Prim.Native.Nat.{ℕ}
+use native.Mathlib.Omega.{arith}
+use Rattle.answer.specs.declared.Refusal.{Refusal}
 use Rattle.answer.specs.Answer.{Out, refused, done, guard, refuse, pick, _>>=_}
 
 -- case analysis on a test, with what it said
@@ -17,3 +19,22 @@ pass n b f h = rw h
 pub stop : {B : Type 0} (n : ℕ) (b : Bool) (f : Unit {0} → Out B) → b ≡ false → (guard n b >>= f) ≡ refuse n
 unfolding _>>=_
 stop n b f h = rw h
+
+-- no two answers have one meaning
+pub un-done : {A : Type 0} {a b : A} → done a ≡ done b → a ≡ b
+un-done p = cc
+
+pub un-refused : {A : Type 0} {q r : Refusal} → _≡_ {A = Out A} (refused q) (refused r) → q ≡ r
+un-refused p = cc
+
+pub not-both : {A : Type 0} {a : A} {r : Refusal} → _≡_ {A = Out A} (done a) (refused r) → ⊥
+not-both p = let z : _≡_ {A = ℕ} 0 1 = cc in omega arith
+
+-- an `&&` that holds, taken apart
+pub and-left : (a b : Bool) → (a && b) ≡ true → a ≡ true
+and-left true b h = refl
+and-left false b h = h
+
+pub and-right : (a b : Bool) → (a && b) ≡ true → b ≡ true
+and-right true b h = h
+and-right false b h = cc

@@ -5,7 +5,6 @@ use Prim.Native.Nat.{ℕ}
 use Rattle.answer.specs.declared.Refusal.{Refusal}
 
 infixl 20 _>>=_
-
 pub data Out (A : Type 0) : Type 0 where
   refused : Refusal → Out A
   done : A → Out A

@@ -1,5 +1,5 @@
 -- Laws of what a writer answers and of what the lent buffer then holds. Assumes nothing.
-use mathlib.Core.Path.{_≡_, refl, ap, _∙_}
+use mathlib.Core.Path.{_≡_, refl, _∙_}
 use mathlib.Core.List.{List, [], _∷_, _++_}
 use Prim.Native.Nat.{ℕ, zero, suc, _+_, _*_, _/_, _%_, _≤_, _<_}
 use native.Mathlib.Nat.{add-zero, add-suc, suc-add, add-assoc}
@@ -110,3 +110,12 @@ put-unique (Next m) (Next n) e = cc
 put-unique (Next m) (Refused r) e = cc
 put-unique (Refused r) (Next n) e = cc
 put-unique (Refused q) (Refused r) e = cc
+
+module _ (p : Put) (out : List ℕ) (at : ℕ) (x : List ℕ) (told : put p ≡ written out at (done x)) where
+  -- so where there is room, a put has one answer only ..
+  pub put-fits : at + length x ≤ length out → p ≡ Next (at + length x)
+  put-fits h = put-unique p (Next (at + length x)) (told ∙ written-fits out at x h)
+
+  -- .. and where there is none, one too
+  pub put-full : length out < at + length x → p ≡ Refused (record { number = 8 })
+  put-full h = put-unique p (Refused (record { number = 8 })) (told ∙ written-full out at x h)

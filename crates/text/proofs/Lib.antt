@@ -1,5 +1,7 @@
 pub mod TableLaws
 pub mod SameLaws
-pub mod LoopLaws
 pub mod StateLaws
+pub mod LoopLaws
 pub mod Utf8Laws
+pub mod GrammarLaws
+pub mod Utf8Examples

@@ -1,16 +1,17 @@
 -- What a turn and the end of each loop over bytes tell: what is left still gives the answer. Assumes nothing.
-use mathlib.Core.Bool.{Bool, true, false, _&&_, and-assoc, and-true}
-use mathlib.Core.List.{List, [], _∷_, map, tail}
-use mathlib.Core.Path.{_≡_, refl, sym, _∙_, ap}
-use Prim.Native.Nat.{ℕ, zero, suc, max, _<_, _≤_, _+_}
+use mathlib.Core.Bool.{Bool, _&&_, and-assoc, and-true}
+use mathlib.Core.List.{List, _∷_}
+use mathlib.Core.Path.{_≡_, sym}
+use Prim.Native.Nat.{ℕ, max, _<_, _≤_, _+_}
 use native.Mathlib.Numerals.{add-one}
 use native.Mathlib.Omega.{arith}
-use lib.Dec.{eqb, eqb·suc-zero}
+use lib.Dec.{eqb}
 use lib.ListN.{length, getD, drop, drop-of-length-le}
 use lib.Seq.{drop-cons}
 use Rattle.text.specs.Same.{same, highest}
-use Rattle.text.specs.Utf8.{Wanted, bad, more, next, between, octets, utf8}
-use Rattle.text.specs.States.{states, wanted}
+use Rattle.text.specs.Utf8.{next, octets, utf8}
+use Rattle.text.specs.States.{wanted}
+use Rattle.text.proofs.StateLaws.{ends}
 
 on : (s : List ℕ) (i : ℕ) → i < length s → drop i s ≡ getD s i 0 ∷ drop (i + 1) s
 on s i h = rw (add-one, drop-cons s i 0)
@@ -36,17 +37,6 @@ module _ (s : List ℕ) (i m : ℕ) (inv : highest 0 s ≡ highest m (drop i s))
   pub highest-end : length s ≤ i → m ≡ highest 0 s
   unfolding highest
   highest-end h = rw (inv, drop-of-length-le s h)
-
-inner : (ws : List Wanted) → map between ws ≡ map (λ w. false) ws → (n : ℕ) → between (getD ws n bad) ≡ false
-inner [] e n = refl
-inner (w ∷ ws) e zero = cc
-inner (w ∷ ws) e (suc n) = inner ws (cc) n
-
--- only state 0 is between two characters
-ends : (n : ℕ) → eqb n 0 ≡ between (wanted n)
-unfolding wanted states
-ends zero = refl
-ends (suc n) = eqb·suc-zero n ∙ sym (inner (tail states) refl n)
 
 module _ (s : List ℕ) (i n : ℕ) (inv : utf8 s ≡ octets (wanted n) (drop i s)) where
   pub walk-turn : (r : ℕ) → i < length s → wanted r ≡ next (wanted n) (getD s i 0) → utf8 s ≡ octets (wanted r) (drop (i + 1) s)

@@ -9,13 +9,17 @@ use lib.Dec.{eqb, ltb}
 use lib.ListN.{length}
 use Rattle.text.specs.Same.{same, highest, ascii}
 
+-- equations that clash prove 0 ≡ 1 by `cc`, and so anything
+pub never : {G : Type 0} → _≡_ {A = ℕ} 0 1 → G
+never e = absurd (omega arith)
+
 pub and-left : (a b : Bool) → (a && b) ≡ true → a ≡ true
 and-left true b e = refl
 and-left false b e = e
 
 pub and-right : (a b : Bool) → (a && b) ≡ true → b ≡ true
 and-right true b e = e
-and-right false b e = absurd (let z : _≡_ {A = ℕ} 0 1 = cc in omega arith)
+and-right false b e = never (cc)
 
 -- two tests are one if each holds where the other does
 tests : (a b : Bool) → (a ≡ true → b ≡ true) → (b ≡ true → a ≡ true) → a ≡ b
@@ -41,6 +45,10 @@ same-equal (a ∷ s) (b ∷ t) e = cc (eqb-true a b (and-left (eqb a b) (same s 
 pub equal-same : (s t : List ℕ) → s ≡ t → same s t ≡ true
 equal-same s t e = rw (← e) (same-self s)
 
+-- strings that are not the same differ
+pub same-differ : (s t : List ℕ) → same s t ≡ false → s ≡ t → ⊥
+same-differ s t e q = never (cc (equal-same s t q))
+
 -- strings of two lengths are not the same
 pub same-lengths : (s t : List ℕ) → (length s ≡ length t → ⊥) → same s t ≡ false
 unfolding same
@@ -54,8 +62,8 @@ under m b =
     tests (ltb (max m b) 128) (ltb m 128 && ltb b 128)
     (λ e. let h : max m b < 128 = ltb-true (max m b) 128 e in rw (lt-ltb m 128 (omega arith), lt-ltb b 128 (omega arith)))
     (λ e.
-      let h : m < 128 = ltb-true m 128 (and-left (ltb m 128) (ltb b 128) e) in
-      let k : b < 128 = ltb-true b 128 (and-right (ltb m 128) (ltb b 128) e) in lt-ltb (max m b) 128 (omega arith))
+    let h : m < 128 = ltb-true m 128 (and-left (ltb m 128) (ltb b 128) e) in
+    let k : b < 128 = ltb-true b 128 (and-right (ltb m 128) (ltb b 128) e) in lt-ltb (max m b) 128 (omega arith))
 
 -- the highest byte, at least m, is under 128 just if m is and the text is US-ASCII
 pub highest-ascii : (m : ℕ) (s : List ℕ) → ltb (highest m s) 128 ≡ (ltb m 128 && ascii s)

@@ -1,11 +1,12 @@
 -- The states of the walk do what the rows say. Assumes nothing.
 use mathlib.Core.Bool.{Bool, true, false, cond}
-use mathlib.Core.List.{List, [], _∷_, map}
-use mathlib.Core.Path.{_≡_, refl, sym}
+use mathlib.Core.List.{List, [], _∷_, map, tail}
+use mathlib.Core.Path.{_≡_, refl, sym, _∙_}
 use Prim.Native.Nat.{ℕ, zero, suc, zero-le, _<_, _≤_, _+_}
 use native.Mathlib.Omega.{arith}
-use lib.ListN.{List·getD-eq-default}
-use Rattle.text.specs.Utf8.{Range, Wanted, bad, more, _to_, within, opened, rows, next}
+use lib.Dec.{eqb, eqb·suc-zero}
+use lib.ListN.{getD, List·getD-eq-default}
+use Rattle.text.specs.Utf8.{Range, Wanted, bad, more, within, opened, rows, next, between}
 use Rattle.text.specs.States.{states, wanted}
 use Rattle.text.proofs.TableLaws.{count, span}
 
@@ -36,3 +37,14 @@ missed n (suc k) m = let h : k ≤ n = missed n k (m .0) in let d : n ≡ k → 
 pub stays-bad : (n b : ℕ) → Missed n 8 → wanted 8 ≡ next (wanted n) b
 unfolding next wanted states
 stays-bad n b m = rw (List·getD-eq-default states bad (missed n 8 m))
+
+inner : (ws : List Wanted) → map between ws ≡ map (λ w. false) ws → (n : ℕ) → between (getD ws n bad) ≡ false
+inner [] e n = refl
+inner (w ∷ ws) e zero = cc
+inner (w ∷ ws) e (suc n) = inner ws (cc) n
+
+-- only state 0 is between two characters
+pub ends : (n : ℕ) → eqb n 0 ≡ between (wanted n)
+unfolding wanted states
+ends zero = refl
+ends (suc n) = eqb·suc-zero n ∙ sym (inner (tail states) refl n)

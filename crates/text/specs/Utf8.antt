@@ -9,10 +9,9 @@ pub record Range : Type 0 where
   pub low : ℕ
   pub high : ℕ
 
+infix 80 _to_
 abbrev pub _to_ : ℕ → ℕ → Range
 _to_ a b = record { low = a; high = b }
-
-infix 80 _to_
 
 abbrev pub within : Range → ℕ → Bool
 within r b = leb (r .low) b && leb b (r .high)

@@ -61,5 +61,9 @@ fn walk(s: &[u8]) -> bool
 pub fn utf8(s: &[u8]) -> bool
     ensures { λ r. ⌜ r ≡ wellFormed (now (s .entry)) ⌝ }
 {
-    if crate::highest(s) < 128 { true } else { walk(s) }
+    if crate::highest(s) < 128 {
+        true
+    } else {
+        walk(s)
+    }
 }

@@ -5,7 +5,7 @@ use lib.Dec.{leb}
 use lib.ListN.{length, getD, take, drop}
 use Rattle.answer.specs.Answer.{Out, refused, done, guard, _>>=_}
 use Rattle.text.specs.Utf8.{utf8}
-use Rattle.wire.specs.declared.Place.{Place}
+use Rattle.wire.specs.declared.answers.Place.{Place}
 
 -- How far a reader is in the input, and what is left from there on.
 pub record At : Type 0 where

@@ -1,3 +1,4 @@
 pub mod Fields
 pub mod Names
 pub mod Shown
+pub mod Answers

@@ -1,5 +1,5 @@
 -- Name-lists (RFC 4251 section 5), as src/helpers.rs of the Rust reads them (docs/DIFFERENCES.md, C2 to C7).
-use mathlib.Core.Bool.{Bool, true, false, _&&_}
+use mathlib.Core.Bool.{Bool, true, false, not, _&&_}
 use mathlib.Core.List.{List, [], _∷_, _++_}
 use Prim.Native.Nat.{ℕ, _+_}
 use lib.Dec.{leb, eqb}
@@ -38,21 +38,30 @@ abbrev pub empty : List ℕ → Bool
 empty [] = true
 empty (b ∷ s) = false
 
--- name by name from the left, n of them judged before: an empty or non-ASCII name is 3, before the count's 2 (C2, C4, C7)
+-- a name that may stand in a list: not empty (C2), and US-ASCII as RFC 4251 asks (C4)
+unfoldable pub standing : List ℕ → Bool
+standing s = not (empty s) && ascii s
+
+-- name by name from the left, n of them judged before: 3 for a name that may not stand, before the count's 2 (C7)
 unfoldable pub judged : ℕ → List (List ℕ) → Out (Unit {0})
 judged n [] = done tt
-judged n (name ∷ names) = do
-  _ ← guard 3 (pick (empty name) false (ascii name))
+judged n (s ∷ names) = do
+  _ ← guard 3 (standing s)
   _ ← guard 2 (leb n mostBefore)
   judged (n + 1) names
 
--- a name-list: the string, then its length, then UTF-8, then its names (C7)
+-- the bytes of a list: UTF-8 as a whole, then its names (C7)
+unfoldable pub judgedList : List ℕ → Out (Unit {0})
+judgedList s = do
+  _ ← guard 3 (utf8 s)
+  judged 0 (cut s)
+
+-- a name-list: the string, then its length, then its bytes (C7)
 unfoldable pub nameList : At → Out (Run × At)
 nameList c = do
   (t, c′) ← run c
   _ ← guard 2 (leb (length (t .bytes)) mostBytes)
-  _ ← guard 3 (utf8 (t .bytes))
-  _ ← judged 0 (cut (t .bytes))
+  _ ← judgedList (t .bytes)
   done (t, c′)
 
 -- how many bytes stand before the first comma, or before the end
@@ -70,4 +79,20 @@ unfoldable pub nextName : At → Next
 nextName c =
     pick (empty (c .left)) none
     (name (record { place = record { start = c .at; len = nameLength (c .left) }; bytes = take (nameLength (c .left)) (c .left) })
-        (skip (nameLength (c .left) + pick (empty (drop (nameLength (c .left)) (c .left))) 0 1) c))
+    (skip (nameLength (c .left) + pick (empty (drop (nameLength (c .left)) (c .left))) 0 1) c))
+
+-- a name that can stand in a list: not empty, and without a comma
+abbrev pub noComma : List ℕ → Bool
+noComma [] = true
+noComma (b ∷ s) = not (eqb b 44) && noComma s
+
+abbrev pub listable : List ℕ → Bool
+listable s = not (empty s) && noComma s
+
+-- one that the rules of a list take, too
+abbrev pub nameable : List ℕ → Bool
+nameable s = listable s && ascii s
+
+abbrev pub every : {A : Type 0} → (A → Bool) → List A → Bool
+every f [] = true
+every f (x ∷ xs) = f x && every f xs

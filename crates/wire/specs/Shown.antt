@@ -4,7 +4,7 @@ use Prim.Native.Nat.{ℕ, _+_}
 use lib.Dec.{leb}
 use lib.ListN.{length, take, drop}
 use Rattle.answer.specs.Answer.{Out, refused, done, guard, _>>=_}
-use Rattle.wire.specs.declared.Place.{Place}
+use Rattle.wire.specs.declared.answers.Place.{Place}
 
 -- the bytes at a place
 abbrev pub part : Place → List ℕ → List ℕ

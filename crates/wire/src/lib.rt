@@ -1,7 +1,5 @@
-// The field reader: a cursor that is a value, and what it reads of a slice that is lent.
-
-// Where a run of bytes stands in the slice that was lent.
-pub struct Place {
-    pub start: usize,
-    pub len: usize,
-}
+// The field reader (RFC 4251 section 5): a cursor that is a value, and what it reads of a slice that is lent.
+pub mod answers;
+pub mod cursor;
+pub mod lists;
+pub mod show;

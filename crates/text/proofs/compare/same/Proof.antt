@@ -1,6 +1,6 @@
 -- Loop: what is compared so far, and what is left, give the answer. Assumes nothing.
 use mathlib.Core.Bool.{_&&_}
-use mathlib.Core.Path.{_≡_, refl, sym}
+use mathlib.Core.Path.{_≡_, refl}
 use Prim.Native.Nat.{_-_}
 use native.Mathlib.Omega.{arith}
 use lib.ListN.{length, drop}

@@ -7,30 +7,6 @@ use borrow.Author.Needs.{needs}
 use Rattle.text.proofs.octets.step.Statement.{statement}
 use Rattle.text.proofs.octets.step.Tie as tie
 
-opens-requires : tie.Need-opens-requires
-opens-requires c κs = search needs
-
-inside-requires : tie.Need-inside-requires
-inside-requires c κs = search needs
-
-inside-requires-2 : tie.Need-inside-requires-2
-inside-requires-2 c κs = search needs
-
-inside-requires-3 : tie.Need-inside-requires-3
-inside-requires-3 c κs = search needs
-
-inside-requires-4 : tie.Need-inside-requires-4
-inside-requires-4 c κs = search needs
-
-inside-requires-5 : tie.Need-inside-requires-5
-inside-requires-5 c κs = search needs
-
-inside-requires-6 : tie.Need-inside-requires-6
-inside-requires-6 c κs = search needs
-
-inside-requires-7 : tie.Need-inside-requires-7
-inside-requires-7 c κs = search needs
-
 returns : tie.Need-returns
 unfolding next wanted states
 returns c = rw (c .before .match .keys1) (c .opens .ensures)
@@ -70,14 +46,14 @@ pub step-spec : {M : Type 1} → statement M
 step-spec =
     tie.close
     (tie.spec
-    opens-requires
-    inside-requires
-    inside-requires-2
-    inside-requires-3
-    inside-requires-4
-    inside-requires-5
-    inside-requires-6
-    inside-requires-7
+    (λ c κs. search needs)
+    (λ c κs. search needs)
+    (λ c κs. search needs)
+    (λ c κs. search needs)
+    (λ c κs. search needs)
+    (λ c κs. search needs)
+    (λ c κs. search needs)
+    (λ c κs. search needs)
     returns
     returns-2
     returns-3

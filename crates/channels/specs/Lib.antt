@@ -1,0 +1,3 @@
+pub mod Open
+pub mod Failure
+pub mod Answers

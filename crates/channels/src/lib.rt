@@ -1,0 +1,58 @@
+// Channel opening (RFC 4254 sections 5.1, 6.3.2 and 7.2): src/parsing.rs of russh, with places for its owned strings.
+
+use answer::Refusal;
+use wire::answers::Cursor;
+use wire::answers::Place;
+
+pub struct TcpChannelInfo {
+    pub host_to_connect: Place,
+    pub port_to_connect: u32,
+    pub originator_address: Place,
+    pub originator_port: u32,
+}
+
+pub struct StreamLocalChannelInfo {
+    pub socket_path: Place,
+}
+
+// The rest of an unknown type's body is handed back by `OpenChannelMessage::rest`, from the cursor on.
+pub enum ChannelType {
+    Session,
+    X11 {
+        originator_address: Place,
+        originator_port: u32,
+    },
+    DirectTcpip(TcpChannelInfo),
+    DirectStreamLocal(StreamLocalChannelInfo),
+    ForwardedTcpIp(TcpChannelInfo),
+    ForwardedStreamLocal(StreamLocalChannelInfo),
+    AgentForward,
+    Unknown {
+        typ: Place,
+        rest: Cursor,
+    },
+}
+
+pub struct OpenChannelMessage {
+    pub typ: ChannelType,
+    pub recipient_channel: u32,
+    pub recipient_window_size: u32,
+    pub recipient_maximum_packet_size: u32,
+}
+
+pub struct ChannelOpenConfirmation {
+    pub recipient_channel: u32,
+    pub sender_channel: u32,
+    pub initial_window_size: u32,
+    pub maximum_packet_size: u32,
+}
+
+pub enum GotOpen {
+    Message(OpenChannelMessage),
+    Refused(Refusal),
+}
+
+pub enum GotConfirmation {
+    Confirmed(ChannelOpenConfirmation),
+    Refused(Refusal),
+}

@@ -1,0 +1,128 @@
+-- What a side settles on when it reads a peer's KEXINIT (document 01, "KEXINIT", Reading and Choice): fields and choices
+-- alternate.
+use mathlib.Core.Bool.{Bool, true, false, not, _&&_, _||_}
+use mathlib.Core.List.{List, [], _∷_, _++_}
+use mathlib.Core.Option.{Option, some, none}
+use Prim.Native.Nat.{ℕ}
+use lib.Dec.{leb, eqb}
+use lib.ListN.{length, getD}
+use Rattle.answer.specs.Answer.{Out, refused, done, refuse, guard, pick, _>>=_}
+use Rattle.text.specs.Same.{same}
+use Rattle.text.specs.Literal.{bytes}
+use Rattle.wire.specs.Fields.{At, Run, here, byte, word, string, end}
+use Rattle.wire.specs.Names.{cut, nameList}
+use Rattle.names.specs.Tables.{needMac, builtIn}
+use Rattle.names.specs.Lookup.{numberOf}
+use Rattle.names.specs.declared.Kind.{Kind}
+use Rattle.names.specs.declared.Kind.the-variants.{Kex, Key, Certificate, Cipher, Mac, Compression}
+use Rattle.choice.specs.Choice.{listed, chosen, bothFirst}
+use Rattle.choice.specs.Rows.{rowSpelled, spelledRows}
+use Rattle.preferred.specs.Tables.{Tables, valid}
+use Rattle.preferred.specs.Own.{member, strictName, other, kexChosen}
+use Rattle.negotiation.specs.declared.Names.{Names}
+use Rattle.negotiation.specs.declared.GotNames.{GotNames}
+use Rattle.negotiation.specs.declared.GotNames.the-variants.{Settled, Refused as NotSettled}
+use Rattle.negotiation.specs.Written.{keyList, cipherList, macList, compressionList}
+
+-- "KEXINIT payload over 262,176 bytes" is 1
+abbrev pub mostPayload : ℕ
+mostPayload = 262176
+
+-- a name-list field, as its names
+unfoldable pub offer : At → Out (List (List ℕ) × At)
+offer c = do
+  (t, d) ← nameList c
+  done (cut (t .bytes), d)
+
+-- a category that needs a shared name: without one, its number
+abbrev pub settle : ℕ → Option (List ℕ) → Out (List ℕ)
+settle n none = refuse n
+settle n (some name) = done name
+
+-- a name's number in its kind; a chosen name always has one
+abbrev pub orZero : Option ℕ → ℕ
+orZero none = 0
+orZero (some n) = n
+
+unfoldable pub number : Kind → List ℕ → ℕ
+number k name = orZero (numberOf k name)
+
+unfoldable pub needsMac : List ℕ → Bool
+needsMac cipher = getD needMac (number Cipher cipher) false
+
+unfoldable pub hasIntegrity : List ℕ → Bool
+hasIntegrity cipher = getD builtIn (number Cipher cipher) false
+
+abbrev pub noMac : List ℕ
+noMac = bytes "none"
+
+-- "MAC: no shared name gives `none` if the cipher needs no MAC, else 13; a first shared name `none` under a cipher that
+-- needs one gives 13, even if another name is shared."
+unfoldable pub settleMac : List ℕ → Option (List ℕ) → Out (List ℕ)
+settleMac cipher none = pick (needsMac cipher) (refuse 13) (done noMac)
+settleMac cipher (some mac) = pick (needsMac cipher && same mac noMac) (refuse 13) (done mac)
+
+-- "Strict: own preferences hold the own-side strict name and the peer's kex list holds the other; or the caller's
+-- strict-rekey flag."
+unfoldable pub strict : Tables → Bool → List (List ℕ) → Bool
+strict t rekey peer = (member (strictName (t .side)) (t .kex) && listed (rowSpelled (strictName (other (t .side)))) peer) || rekey
+
+-- "The key choice [..] says whether a certificate name was chosen; the key number is the plain one."
+abbrev pub isSome : Option ℕ → Bool
+isSome none = false
+isSome (some n) = true
+
+unfoldable pub isCertificate : List ℕ → Bool
+isCertificate name = isSome (numberOf Certificate name)
+
+unfoldable pub keyNumber : List ℕ → ℕ
+keyNumber name = pick (isCertificate name) (number Certificate name) (number Key name)
+
+-- the record
+unfoldable pub settled : List ℕ → List ℕ → List ℕ → List ℕ → List ℕ → List ℕ → List ℕ → Bool → Bool → Names
+settled kex key cipher clientMac serverMac clientCompression serverCompression ignore isStrict =
+    record {
+      kex = record { 0 = number Kex kex };
+      key = record { 0 = keyNumber key };
+      cipher = record { 0 = number Cipher cipher };
+      «client_mac» = record { 0 = number Mac clientMac };
+      «server_mac» = record { 0 = number Mac serverMac };
+      «client_compression» = record { 0 = number Compression clientCompression };
+      «server_compression» = record { 0 = number Compression serverCompression };
+      flags = record { «host_key_is_certificate» = isCertificate key; «ignore_guessed» = ignore; «strict_kex» = isStrict };
+    }
+
+unfoldable pub readKex : Tables → Bool → List ℕ → Out Names
+readKex t rekey p = do
+  _ ← guard 9 (valid t)
+  _ ← guard 1 (leb (length p) mostPayload)
+  _ ← guard 6 (leb 17 (length p))
+  (kexes, c₁) ← offer (here p 17)
+  kex ← settle 10 (chosen (t .side) (spelledRows (kexChosen t)) kexes)
+  (keys, c₂) ← offer c₁
+  key ← settle 11 (chosen (t .side) (keyList t) keys)
+  (ciphers, c₃) ← offer c₂
+  cipher ← settle 12 (chosen (t .side) (cipherList t) ciphers)
+  (_, c₄) ← string c₃
+  (macs, c₅) ← offer c₄
+  clientMac ← settleMac cipher (chosen (t .side) (macList t) macs)
+  (macs′, c₆) ← offer c₅
+  serverMac ← settleMac cipher (chosen (t .side) (macList t) macs′)
+  (compressions, c₇) ← offer c₆
+  clientCompression ← settle 14 (chosen (t .side) (compressionList t) compressions)
+  (compressions′, c₈) ← offer c₇
+  serverCompression ← settle 14 (chosen (t .side) (compressionList t) compressions′)
+  (_, c₉) ← string c₈
+  (_, c₁₀) ← string c₉
+  (follows, c₁₁) ← byte c₁₀
+  (_, c₁₂) ← word c₁₁
+  _ ← end c₁₂
+  done
+      (settled kex key cipher clientMac serverMac clientCompression serverCompression
+      (not (eqb follows 0) && not (bothFirst (spelledRows (kexChosen t)) kexes && bothFirst (keyList t) keys))
+      (strict t rekey kexes))
+
+-- what a `GotNames` means
+abbrev pub gotNames : GotNames → Out Names
+gotNames (Settled n) = done n
+gotNames (NotSettled r) = refused r

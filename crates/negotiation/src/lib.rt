@@ -1,0 +1,31 @@
+// KEXINIT and negotiation (RFC 4253 section 7.1): `write_kex` and `read_kex` of src/negotiation.rs.
+
+use answer::Refusal;
+use names::CipherId;
+use names::CompressionId;
+use names::KexId;
+use names::KeyId;
+use names::MacId;
+
+pub struct Flags {
+    pub host_key_is_certificate: bool,
+    pub ignore_guessed: bool,
+    pub strict_kex: bool,
+}
+
+// What was settled: `Names` of the Rust.
+pub struct Names {
+    pub kex: KexId,
+    pub key: KeyId,
+    pub cipher: CipherId,
+    pub client_mac: MacId,
+    pub server_mac: MacId,
+    pub client_compression: CompressionId,
+    pub server_compression: CompressionId,
+    pub flags: Flags,
+}
+
+pub enum GotNames {
+    Settled(Names),
+    Refused(Refusal),
+}

@@ -1,0 +1,20 @@
+// The local tables (document 01): what they may be, and the lists that this side writes and chooses from. `Preferred`,
+// `server_certificate_names` and `possible_host_key_algos_for_keys` of src/negotiation.rs.
+
+// Rows of the name table, `len` of them, and 0 after them.
+pub struct RowList {
+    pub rows: [u8; 32],
+    pub len: usize,
+}
+
+// A side's own lists, made of tables that were judged: `number` is 0, or 9 and every list is empty. (An enum that holds
+// an array is not covered, so the number stands beside the lists.)
+pub struct Own {
+    pub number: u8,
+    pub kex_written: RowList,
+    pub kex_chosen: RowList,
+    pub key: RowList,
+    pub cipher: RowList,
+    pub mac: RowList,
+    pub compression: RowList,
+}
