@@ -5,3 +5,4 @@ pub mod PlaceLaws
 pub mod TableLaws
 pub mod LookupLaws
 pub mod SpellLaws
+pub mod UniqueLaws
