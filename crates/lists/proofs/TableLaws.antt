@@ -29,8 +29,8 @@ table-nameable [] names e = rw (← un-done e)
 table-nameable (r ∷ rs) names e =
     split (ltb r (length allNames))
     (λ t.
-      let h = ltb-true r (length allNames) t in
-      with-name (getD allNames r []) (namesBy (nameAt allNames) rs) names (name-nameable r h) (table-nameable rs) (rw (entry-in [] allNames r h) at e))
+    let h = ltb-true r (length allNames) t in
+    with-name (getD allNames r []) (namesBy (nameAt allNames) rs) names (name-nameable r h) (table-nameable rs) (rw (entry-in [] allNames r h) at e))
     (λ f. cc (rw (entry-out [] allNames r (ltb-false r (length allNames) f)) at e))
 
 -- so the list is cut into just those names

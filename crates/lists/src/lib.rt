@@ -12,13 +12,19 @@ ghost use Rattle.names.specs.Spelled.{rowName};
 ghost use Rattle.lists.specs.Lists.{listBy, nameListOf};
 ghost use Rattle.lists.specs.Texts.{named, texts, part, most, sizeFrom, nextOr};
 use answer::refuse;
+use names::OUTSIDE;
 use names::inside;
 use names::spelling;
 use names::tables;
 use names::wide;
 use put::Put;
 
-// One more than the longest list with a comma after each name.
+// The numbers of document 01 that a list is refused with, besides.
+const TOO_LONG: u8 = 1;
+
+const NO_ROOM: u8 = 8;
+
+// One more than the longest list has with a comma after each name. Counting stops here, so that no sum wraps.
 const MOST: usize = 4294967297;
 
 fn known(spellings: &[u8], starts: &[u16], lengths: &[u8], rows: &[u8]) -> bool
@@ -160,19 +166,19 @@ pub fn put_rows(
     ensures bytes { λ r. ⌜ now (out .exit) ≡ buffer (now (out .entry)) at (listBy (rowName (now (spellings .entry)) (now (starts .entry)) (now (lengths .entry))) (now (rows .entry))) ⌝ }
 {
     if !known(spellings, starts, lengths, rows) {
-        return Put::Refused(refuse(9));
+        return Put::Refused(refuse(OUTSIDE));
     }
     let total = size(spellings, starts, lengths, rows);
     if MOST <= total {
-        return Put::Refused(refuse(1));
+        return Put::Refused(refuse(TOO_LONG));
     }
     let len = less(total);
     // By a difference, since a sum could wrap.
     if out.len() < at {
-        return Put::Refused(refuse(8));
+        return Put::Refused(refuse(NO_ROOM));
     }
     if out.len() - at < 4 + len {
-        return Put::Refused(refuse(8));
+        return Put::Refused(refuse(NO_ROOM));
     }
     Put::Next(store_list(spellings, starts, lengths, rows, len as u32, out, at))
 }

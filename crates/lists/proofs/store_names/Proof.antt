@@ -9,12 +9,6 @@ use Rattle.lists.specs.Texts.{texts}
 use Rattle.lists.proofs.StoreLaws.{Left, left-all, no-names, names-room, names-on, last-room, last-whole}
 use Rattle.lists.proofs.store_names.Statement.{statement}
 use Rattle.lists.proofs.store_names.Tie as tie
-use Rattle.lists.proofs.store_names.Reads as reads
-use Rattle.lists.proofs.store_names.Lts as lts
-use Rattle.lists.proofs.store.Reads as store-reads
-use Rattle.lists.proofs.store_part.Reads as store-part-reads
-use Rattle.names.proofs.spelling.Reads as spelling-reads
-use Rattle.names.proofs.wide.Reads as wide-reads
 
 abbrev Inv-loop : tie.InvT-loop
 Inv-loop spellings starts lengths rows out₀ at last p₀ i₀ out p i = (i ≤ last) × (last + 1 ≡ length rows) × Left out₀ at (join (texts (rowName spellings starts lengths) rows)) out p (join (texts (rowName spellings starts lengths) (drop i rows)))
@@ -22,59 +16,39 @@ Inv-loop spellings starts lengths rows out₀ at last p₀ i₀ out p i = (i ≤
 abbrev μ-loop : tie.MeasureT-loop
 μ-loop spellings starts lengths rows out₀ at last p₀ i₀ out p i = last - i
 
--- src/lib.rt:96:9
 returns : tie.Need-returns Inv-loop μ-loop
 returns c = no-names _ _ _ _ (c .if1 .taken)
 
--- src/lib.rt:98:16
 sub-last : tie.Need-sub-last Inv-loop μ-loop
 sub-last c = omega arith
 
--- src/lib.rt:101:5
 loop-holds : tie.Need-loop-holds Inv-loop μ-loop
 loop-holds c = (omega arith, omega arith, left-all _ _ _ (c .before .before .before .before .before .before .pre))
 
--- src/lib.rt:102:52
 shared-slice-read-store-part : tie.Need-shared-slice-read-store-part Inv-loop μ-loop
 shared-slice-read-store-part c = omega arith
 
--- src/lib.rt:102:9
 store-part-requires : tie.Need-store-part-requires Inv-loop μ-loop
 store-part-requires c κs = names-room _ _ _ _ _ _ _ _ _ (c .before .before .before .loop .inv .2) (omega arith)
 
--- src/lib.rt:103:9
 add-i : tie.Need-add-i Inv-loop μ-loop
 add-i c = omega arith
 
--- src/lib.rt:101:5
 loop-less : tie.Need-loop-less Inv-loop μ-loop
 loop-less c = omega arith
 
--- src/lib.rt:101:5
 loop-again : tie.Need-loop-again Inv-loop μ-loop
 loop-again c = (omega arith, omega arith, names-on _ _ _ _ _ _ _ _ _ (c .before .before .before .before .before .before .loop .inv .2) (omega arith) _ _ (c .before .before .store-part .ensures))
 
--- src/lib.rt:105:61
 shared-slice-read-wide : tie.Need-shared-slice-read-wide Inv-loop μ-loop
 shared-slice-read-wide c = omega arith
 
--- src/lib.rt:105:56
-wide-requires : tie.Need-wide-requires Inv-loop μ-loop
-wide-requires c κs = search needs
-
--- src/lib.rt:105:19
-spelling-requires : tie.Need-spelling-requires Inv-loop μ-loop
-spelling-requires c κs = search needs
-
--- src/lib.rt:105:5
 store-requires : tie.Need-store-requires Inv-loop μ-loop
 store-requires c κs = last-room _ _ _ _ (c .before .before .before .before .before .loop .i) _ _ _ _ (c .before .before .before .before .before .loop .inv .2) (omega arith) _ _ (c .before .wide .ensures .0) (omega arith) _ (c .spelling .ensures)
 
--- src/lib.rt:90:1
 same-length : tie.Need-same-length Inv-loop μ-loop
 same-length c = omega (arith, (c .before .before .before .before .before .before .before .before .loop .inv .2) .kept)
 
--- src/lib.rt:90:1
 returns-2 : tie.Need-returns-2 Inv-loop μ-loop
 returns-2 c = last-whole _ _ _ _ (c .before .before .before .before .before .before .before .before .loop .i) _ _ _ _ (c .before .before .before .before .before .before .before .before .loop .inv .2) (omega arith) _ _ (c .before .before .before .before .wide .ensures .0) (omega arith) _ (c .before .before .before .spelling .ensures) _ _ (c .before .before .store .ensures)
 
@@ -93,8 +67,8 @@ store-names-spec =
     loop-less
     loop-again
     shared-slice-read-wide
-    wide-requires
-    spelling-requires
+    (λ c κs. search needs)
+    (λ c κs. search needs)
     store-requires
     same-length
     returns-2)
