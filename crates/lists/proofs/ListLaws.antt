@@ -1,6 +1,6 @@
 -- A list judged and measured is the list that the definition gives. Assumes nothing.
 use mathlib.Core.Path.{_≡_, refl, sym, ap, _∙_}
-use mathlib.Core.Bool.{Bool, true, false, not, _&&_}
+use mathlib.Core.Bool.{Bool, true, false, not}
 use mathlib.Core.List.{List, [], _∷_, _++_}
 use Prim.Native.Nat.{ℕ, _+_, _-_, _≤_, _<_, min}
 use native.Mathlib.Omega.{arith}
@@ -8,12 +8,11 @@ use borrow.Author.Tests.{not-true, not-false}
 use lib.ListN.{length, length-append}
 use lib.Seq.{sets}
 use Rattle.answer.specs.declared.Refusal.{Refusal}
-use Rattle.answer.specs.Answer.{Out, refused, done, refuse, pick, _>>=_}
+use Rattle.answer.specs.Answer.{Out, refused, done, refuse, _>>=_}
 use Rattle.answer.proofs.Laws.{split}
 use Rattle.put.specs.Written.{string, word}
 use Rattle.put.proofs.PutLaws.{string-short, string-long, word-length}
 use Rattle.wire.specs.Names.{join}
-use Rattle.wire.specs.Shown.{bytesOf}
 use Rattle.names.specs.Tables.{allNames}
 use Rattle.names.specs.Spelled.{there, rowName, nameAt}
 use Rattle.names.proofs.WriterLaws.{Puts, full-put, stored-put}

@@ -5,7 +5,7 @@ use Prim.Native.Nat.{ℕ, _+_, _≤_, _<_}
 use native.Mathlib.Omega.{arith}
 use lib.ListN.{length, getD, drop, length-append, drop-of-length-le}
 use lib.Seq.{sets, length-sets}
-use Rattle.answer.specs.Answer.{Out, refused, done}
+use Rattle.answer.specs.Answer.{Out, done}
 use Rattle.put.specs.Written.{written, buffer, word}
 use Rattle.put.proofs.PutLaws.{sets-append, written-fits, buffer-fits, word-length}
 use Rattle.wire.specs.Names.{join}

@@ -1,13 +1,12 @@
 // Name-lists written of rows of the name tables (RFC 4251 section 5): first every row is judged, then the list is
 // measured, then it is written, so that a refusal changes nothing.
-ghost use mathlib.Core.List.{[], _∷_, _++_};
+ghost use mathlib.Core.List.{_++_};
 ghost use mathlib.Core.Path.{_≡_};
 ghost use Prim.Native.Nat.{_+_, _-_, _≤_, min};
 ghost use lib.ListN.{length};
 ghost use lib.Seq.{sets};
 ghost use Rattle.put.specs.Written.{written, buffer, put, word};
 ghost use Rattle.wire.specs.Names.{join};
-ghost use Rattle.wire.specs.Shown.{bytesOf};
 ghost use Rattle.names.specs.Spelled.{rowName};
 ghost use Rattle.lists.specs.Lists.{listBy, nameListOf};
 ghost use Rattle.lists.specs.Texts.{named, texts, part, most, sizeFrom, nextOr};
@@ -40,16 +39,16 @@ fn known(spellings: &[u8], starts: &[u16], lengths: &[u8], rows: &[u8]) -> bool
     true
 }
 
-fn counted(total: usize, n: usize) -> usize
-    ensures { λ r. ⌜ r ≡ min (total + (n + 1)) most ⌝ }
+fn counted(sum: usize, n: usize) -> usize
+    ensures { λ r. ⌜ r ≡ min (sum + (n + 1)) most ⌝ }
 {
-    if MOST <= total {
+    if MOST <= sum {
         return MOST;
     }
-    if MOST - total <= n {
+    if MOST - sum <= n {
         return MOST;
     }
-    total + n + 1
+    sum + n + 1
 }
 
 fn size(spellings: &[u8], starts: &[u16], lengths: &[u8], rows: &[u8]) -> usize

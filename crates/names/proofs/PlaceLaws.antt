@@ -1,15 +1,13 @@
 -- Tests over a list of names, what every says at every place, and the first place of a name.
 -- Assumes nothing.
-use mathlib.Core.Path.{_≡_, refl, sym, ap, _∙_}
+use mathlib.Core.Path.{_≡_, refl}
 use mathlib.Core.Bool.{Bool, true, false, not, _&&_}
 use mathlib.Core.List.{List, [], _∷_, _++_}
-use mathlib.Core.Option.{Option, some, none}
+use mathlib.Core.Option.{some}
 use Prim.Native.Nat.{ℕ, zero, suc, _+_, _-_, _≤_, _<_}
-use native.Mathlib.Nat.{le-of-suc-le-suc, add-zero, add-suc}
-use native.Mathlib.Numerals.{add-one}
+use native.Mathlib.Nat.{le-of-suc-le-suc, add-zero}
 use native.Mathlib.Omega.{arith}
 use lib.ListN.{length, getD}
-use Rattle.answer.specs.Answer.{pick}
 use Rattle.answer.proofs.Laws.{split, and-left, and-right}
 use Rattle.text.specs.Same.{same}
 use Rattle.text.proofs.SameLaws.{same-self, same-equal}

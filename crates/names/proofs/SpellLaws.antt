@@ -1,14 +1,14 @@
 -- Rows of the one table spell the names of the kinds. Assumes nothing.
-use mathlib.Core.Path.{_≡_, refl, sym, ap, _∙_}
+use mathlib.Core.Path.{_≡_}
 use mathlib.Core.List.{List, []}
 use Prim.Native.Nat.{ℕ, _+_, _≤_, _<_}
 use native.Mathlib.Omega.{arith}
-use lib.ListN.{length, getD}
+use lib.ListN.{length}
 use Rattle.answer.specs.declared.Refusal.{Refusal}
-use Rattle.answer.specs.Answer.{Out, refused, done}
+use Rattle.answer.specs.Answer.{Out, refused}
 use Rattle.names.specs.declared.Kind.{Kind}
 use Rattle.names.specs.Tables.{namesOf, allNames, firstRow}
-use Rattle.names.specs.Spelled.{rowName, spelled, nameAt}
+use Rattle.names.specs.Spelled.{rowName, spelled}
 use Rattle.names.proofs.WriterLaws.{Puts, refused-put}
 use Rattle.names.proofs.RowLaws.{entry-in, entry-out}
 use Rattle.names.proofs.ColumnLaws.{flat, starts, lengths, row-name}

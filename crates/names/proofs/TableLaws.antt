@@ -3,8 +3,8 @@
 use mathlib.Core.Path.{_≡_, refl, sym, ap, _∙_}
 use mathlib.Core.Bool.{Bool, true, _&&_}
 use mathlib.Core.List.{List, [], _∷_, _++_, map}
-use mathlib.Core.Option.{Option, some, none}
-use Prim.Native.Nat.{ℕ, zero, suc, _+_, _-_, _≤_, _<_}
+use mathlib.Core.Option.{some}
+use Prim.Native.Nat.{ℕ, zero, suc, _+_, _≤_, _<_}
 use native.Mathlib.Nat.{zero-add, sub-zero, le-of-suc-le-suc}
 use native.Mathlib.Omega.{arith}
 use lib.Dec.{leb, lit≤}
@@ -16,8 +16,8 @@ use Rattle.text.specs.Same.{same, ascii}
 use Rattle.wire.specs.Names.{every, nameable}
 use Rattle.names.specs.declared.Kind.{Kind}
 use Rattle.names.specs.declared.Kind.the-variants.{Kex, Key, Certificate, Cipher, Mac, Compression}
-use Rattle.names.specs.Tables.{bytes, kexNames, keyNames, certificateNames, cipherNames, macNames, compressionNames, namesOf, allNames, firstRow, needMac, builtIn}
-use Rattle.names.specs.Lookup.{numberOf, placeFrom}
+use Rattle.names.specs.Tables.{bytes, kexNames, keyNames, certificateNames, cipherNames, macNames, compressionNames, namesOf, allNames, firstRow}
+use Rattle.names.specs.Lookup.{numberOf}
 use Rattle.names.proofs.PlaceLaws.{every-at, distinct, distinct-front, distinct-back, place-back, place-found}
 
 -- fit to stand in a name-list and in a row

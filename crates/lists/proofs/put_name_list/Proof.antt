@@ -1,3 +1,4 @@
+-- `lists::put_name_list`: the constants compute to the columns of the definition's names. Assumes nothing.
 use Rattle.names.specs.Tables.{allNames, kexNames, keyNames, certificateNames, cipherNames, macNames, compressionNames}
 use Rattle.names.proofs.WriterLaws.{same-put}
 use Rattle.lists.proofs.ListLaws.{table-list}

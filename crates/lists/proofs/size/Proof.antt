@@ -1,3 +1,4 @@
+-- `lists::size`: the rows that are left still give the answer. Assumes nothing.
 use mathlib.Core.Path.{_≡_, refl}
 use Prim.Native.Nat.{_-_}
 use native.Mathlib.Omega.{arith}

@@ -1,3 +1,4 @@
+-- `lists::store`: a put that has room is a run of stores. Assumes nothing.
 use Rattle.lists.proofs.StoreLaws.{put-next, put-bytes}
 use borrow.Author.Needs.{needs}
 use Rattle.lists.proofs.store.Statement.{statement}

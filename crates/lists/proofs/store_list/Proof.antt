@@ -1,3 +1,4 @@
+-- `lists::store_list`: the length in front, then the names. Assumes nothing.
 use Rattle.lists.proofs.StoreLaws.{tail-room, list-whole}
 use borrow.Author.Needs.{needs}
 use Rattle.lists.proofs.store_list.Statement.{statement}

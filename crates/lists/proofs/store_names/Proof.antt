@@ -1,3 +1,4 @@
+-- `lists::store_names`: what is left to write gives the same buffer and the same end. Assumes nothing.
 use mathlib.Core.Path.{_≡_}
 use Prim.Native.Nat.{_+_, _-_, _≤_}
 use native.Mathlib.Omega.{arith}

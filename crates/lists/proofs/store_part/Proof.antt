@@ -1,3 +1,4 @@
+-- `lists::store_part`: two runs of stores are one. Assumes nothing.
 use Rattle.lists.proofs.StoreLaws.{part-laws, part-whole}
 use borrow.Author.Needs.{needs}
 use Rattle.lists.proofs.store_part.Statement.{statement}

@@ -1,3 +1,4 @@
+-- `names::CipherId::built_in_integrity`: the constant column computes to the definition's. Assumes nothing.
 use borrow.Author.Needs.{needs}
 use Rattle.names.specs.Tables.{builtIn, cipherNames}
 use Rattle.names.proofs.CipherId.built_in_integrity.Statement.{statement}

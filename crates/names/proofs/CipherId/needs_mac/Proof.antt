@@ -1,3 +1,4 @@
+-- `names::CipherId::needs_mac`: the constant column computes to the definition's. Assumes nothing.
 use borrow.Author.Needs.{needs}
 use Rattle.names.specs.Tables.{needMac, cipherNames}
 use Rattle.names.proofs.CipherId.needs_mac.Statement.{statement}

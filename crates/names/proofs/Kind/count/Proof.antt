@@ -1,3 +1,4 @@
+-- `names::Kind::count`: each kind's count is computed of its names. Assumes nothing.
 use borrow.Author.Needs.{needs}
 use Rattle.names.specs.declared.Kind.the-variants.{Kex, Key, Certificate, Cipher, Mac, Compression}
 use Rattle.names.proofs.TableLaws.{count-kind}

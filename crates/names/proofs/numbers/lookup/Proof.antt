@@ -1,3 +1,4 @@
+-- `names::numbers::lookup`: a row less the kind's first is the number. Assumes nothing.
 use Rattle.names.proofs.LookupLaws.{number-laws}
 use borrow.Author.Needs.{needs}
 use Rattle.names.proofs.numbers.lookup.Statement.{statement}

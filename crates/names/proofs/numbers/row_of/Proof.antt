@@ -1,3 +1,4 @@
+-- `names::numbers::row_of`: the constants compute to the columns of the definition's names. Assumes nothing.
 use mathlib.Core.Path.{_∙_}
 use native.Mathlib.Omega.{arith}
 use Rattle.names.specs.Tables.{allNames, kexNames, keyNames, certificateNames, cipherNames, macNames, compressionNames}

@@ -1,3 +1,4 @@
+-- `names::rows::find`: the rows that are left still give the answer. Assumes nothing.
 use Prim.Native.Nat.{_-_}
 use mathlib.Core.Path.{_≡_, refl}
 use native.Mathlib.Omega.{arith}

@@ -1,3 +1,4 @@
+-- `names::rows::inside`: the three tests are those of the definition. Assumes nothing.
 use borrow.Author.Needs.{needs}
 use Rattle.names.proofs.RowLaws.{inside-laws}
 use Rattle.names.proofs.rows.inside.Statement.{statement}

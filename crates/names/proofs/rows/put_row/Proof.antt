@@ -1,3 +1,4 @@
+-- `names::rows::put_row`: what is put of a row that is inside, and the refusal of one that is not. Assumes nothing.
 use Rattle.names.proofs.RowLaws.{put-row-laws}
 use borrow.Author.Needs.{needs}
 use Rattle.names.proofs.rows.put_row.Statement.{statement}

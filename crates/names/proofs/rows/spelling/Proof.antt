@@ -1,3 +1,4 @@
+-- `names::rows::spelling`: a row that is inside ends within the spellings. Assumes nothing.
 use borrow.Author.Needs.{needs}
 use Rattle.names.proofs.RowLaws.{spelling-laws}
 use Rattle.names.proofs.rows.spelling.Statement.{statement}

@@ -1,3 +1,4 @@
+-- `names::rows::spells`: a row that is inside is compared, and no other. Assumes nothing.
 use Rattle.names.proofs.RowLaws.{spells-outside, spells-inside}
 use borrow.Author.Needs.{needs}
 use Rattle.names.proofs.rows.spells.Statement.{statement}

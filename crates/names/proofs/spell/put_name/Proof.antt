@@ -1,3 +1,4 @@
+-- `names::spell::put_name`: the constants compute to the columns of the definition's names, where the row spells the name. Assumes nothing.
 use native.Mathlib.Omega.{arith}
 use Rattle.names.specs.Tables.{allNames, kexNames, keyNames, certificateNames, cipherNames, macNames, compressionNames}
 use Rattle.names.proofs.SpellLaws.{refuses, row-fits, row-spells}
