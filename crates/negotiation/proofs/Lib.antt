@@ -4,3 +4,4 @@ pub mod RecordLaws
 pub mod NameLaws
 pub mod StagedLaws
 pub mod ReadLaws
+pub mod OwnLaws

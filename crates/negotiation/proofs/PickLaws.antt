@@ -102,7 +102,7 @@ module _ (rule : Rule) (n : ℕ) where
     on-nothing e f = rw e f
 
 pub ruleset ruled-laws =
-  (lack-needed, lack-protected, lack-optional, share-needed, share-optional, share-none, share-mac, on-row, on-nothing)
+    (lack-needed, lack-protected, lack-optional, share-needed, share-optional, share-none, share-mac, on-row, on-nothing)
 
 -- where a list stands
 module _ (p : List ℕ) (i : ℕ) (t : GotText) (told : gotText p t ≡ nameList (here p i)) (place : Place) (c : Cursor) (e : t ≡ Text place c) where

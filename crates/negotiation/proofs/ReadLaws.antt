@@ -46,14 +46,19 @@ pub record Kinds (k : Rows) : Type 0 where
 record-named : (k : Rows) → Kinds k → (follows : Bool)
     → recorded k follows
     ≡ settled (rowSpelled (k .kex)) (rowSpelled (k .key)) (rowSpelled (k .cipher)) (rowSpelled (k .«client_mac»)) (rowSpelled (k .«server_mac»))
-      (rowSpelled (k .«client_compression»)) (rowSpelled (k .«server_compression»)) (follows && not (k .guessed)) (k .strict)
+    (rowSpelled (k .«client_compression»)) (rowSpelled (k .«server_compression»)) (follows && not (k .guessed)) (k .strict)
 unfolding recorded settled
 record-named k i follows =
-    rw (kex-number (k .kex) (i .kex .0) (i .kex .1), key-number (k .key) (i .key .0) (i .key .1), key-certificate (k .key) (i .key .0) (i .key .1),
-      cipher-number (k .cipher) (i .cipher .0) (i .cipher .1), mac-number (k .«client_mac») (i .clientMac .0) (i .clientMac .1),
+    rw (
+      kex-number (k .kex) (i .kex .0) (i .kex .1),
+      key-number (k .key) (i .key .0) (i .key .1),
+      key-certificate (k .key) (i .key .0) (i .key .1),
+      cipher-number (k .cipher) (i .cipher .0) (i .cipher .1),
+      mac-number (k .«client_mac») (i .clientMac .0) (i .clientMac .1),
       mac-number (k .«server_mac») (i .serverMac .0) (i .serverMac .1),
       compression-number (k .«client_compression») (i .clientCompression .0) (i .clientCompression .1),
-      compression-number (k .«server_compression») (i .serverCompression .0) (i .serverCompression .1))
+      compression-number (k .«server_compression») (i .serverCompression .0) (i .serverCompression .1),
+    )
 
 module _ (t : Tables) (v : valid t ≡ true) (rekey : Bool) where
   -- the rest of `readKex` from the language strings on
@@ -69,7 +74,7 @@ module _ (t : Tables) (v : valid t ≡ true) (rekey : Bool) where
       → k .guessed ≡ (bothFirst (spelledRows (kexChosen t)) kexes && bothFirst (keyList t) keys) → k .strict ≡ strict t rekey kexes → (c : At)
       → languages k c
       ≡ ending (rowSpelled (k .kex)) (rowSpelled (k .key)) (rowSpelled (k .cipher)) (rowSpelled (k .«client_mac»)) (rowSpelled (k .«server_mac»))
-        (rowSpelled (k .«client_compression»)) (rowSpelled (k .«server_compression»)) kexes keys c
+      (rowSpelled (k .«client_compression»)) (rowSpelled (k .«server_compression»)) kexes keys c
   unfolding languages lastFields
   ended k i kexes keys g s c = simp (record-named k i, g, s)
 
@@ -125,12 +130,12 @@ module _ (t : Tables) (v : valid t ≡ true) (rekey : Bool) where
     keyed : (c : At)
         → keys spellsName (t .side) (keyRows t) (rows Cipher (t .cipher)) (rows Mac (t .mac)) (rows Compression (t .compression)) kex f s c
         ≡ (offer c >>= λ x. settle 11 (chosen (t .side) (keyList t) (x .0)) >>= λ key.
-          offer (x .1) >>= λ y. settle 12 (chosen (t .side) (cipherList t) (y .0)) >>= λ cipher.
-          string (y .1) >>= λ o. offer (o .1) >>= λ z. settleMac cipher (chosen (t .side) (macList t) (z .0)) >>= λ cm.
-          offer (z .1) >>= λ z′. settleMac cipher (chosen (t .side) (macList t) (z′ .0)) >>= λ sm.
-          offer (z′ .1) >>= λ w. settle 14 (chosen (t .side) (compressionList t) (w .0)) >>= λ cc.
-          offer (w .1) >>= λ w′. settle 14 (chosen (t .side) (compressionList t) (w′ .0)) >>= λ sc.
-          ending (rowSpelled kex) key cipher cm sm cc sc kexes (x .0) (w′ .1))
+        offer (x .1) >>= λ y. settle 12 (chosen (t .side) (cipherList t) (y .0)) >>= λ cipher.
+        string (y .1) >>= λ o. offer (o .1) >>= λ z. settleMac cipher (chosen (t .side) (macList t) (z .0)) >>= λ cm.
+        offer (z .1) >>= λ z′. settleMac cipher (chosen (t .side) (macList t) (z′ .0)) >>= λ sm.
+        offer (z′ .1) >>= λ w. settle 14 (chosen (t .side) (compressionList t) (w .0)) >>= λ cc.
+        offer (w .1) >>= λ w′. settle 14 (chosen (t .side) (compressionList t) (w′ .0)) >>= λ sc.
+        ending (rowSpelled kex) key cipher cm sm cc sc kexes (x .0) (w′ .1))
     unfolding keys
     keyed c =
         needed (t .side) (keyRows t) 13 27 (keys-within t v) (lit≤ tt) 11 _ _ c

@@ -5,10 +5,12 @@ use mathlib.Core.List.{List, [], _∷_}
 use mathlib.Core.Option.{Option, some, none}
 use Prim.Native.Nat.{ℕ, _-_}
 use lib.Dec.{leb, ltb, eqb}
+use lib.ListN.{take}
 use Rattle.answer.specs.Answer.{Out, refused, done, refuse, guard, pick, _>>=_}
 use Rattle.answer.specs.declared.Refusal.{Refusal}
 use Rattle.wire.specs.Fields.{At, Run, here, byte, word, run, string, end}
 use Rattle.wire.specs.Names.{cut, nameList}
+use Rattle.preferred.specs.declared.RowList.{RowList}
 use Rattle.choice.specs.declared.Side.{Side}
 use Rattle.choice.specs.declared.Side.the-variants.{Client, Server}
 use Rattle.choice.specs.Rows.{offered, chosenRow, firstBoth}
@@ -71,7 +73,7 @@ recorded k follows =
       «server_mac» = record { 0 = k .«server_mac» - 38 };
       «client_compression» = record { 0 = k .«client_compression» - 43 };
       «server_compression» = record { 0 = k .«server_compression» - 43 };
-      flags = record { «host_key_is_certificate» = leb 20 (k .key); «ignore_guessed» = follows && not (k .guessed); «strict_kex» = k .strict }
+      flags = record { «host_key_is_certificate» = leb 20 (k .key); «ignore_guessed» = follows && not (k .guessed); «strict_kex» = k .strict };
     }
 
 -- follows byte, reserved u32, end
@@ -95,18 +97,18 @@ module _ (spells : ℕ → List ℕ → Bool) (side : Side) where
     (a, _, c₁) ← picked spells side Needed 14 own c
     (b, _, c₂) ← picked spells side Needed 14 own c₁
     languages
-      (record {
-        kex = k .kex;
-        key = k .key;
-        cipher = k .cipher;
-        «client_mac» = k .«client_mac»;
-        «server_mac» = k .«server_mac»;
-        «client_compression» = a;
-        «server_compression» = b;
-        guessed = k .guessed;
-        strict = k .strict
-      })
-      c₂
+        (record {
+          kex = k .kex;
+          key = k .key;
+          cipher = k .cipher;
+          «client_mac» = k .«client_mac»;
+          «server_mac» = k .«server_mac»;
+          «client_compression» = a;
+          «server_compression» = b;
+          guessed = k .guessed;
+          strict = k .strict;
+        })
+        c₂
 
   -- the MAC lists, under the cipher's rule
   unfoldable pub macs : List ℕ → List ℕ → Rows → At → Out Names
@@ -114,18 +116,18 @@ module _ (spells : ℕ → List ℕ → Bool) (side : Side) where
     (a, _, c₁) ← picked spells side (macRule (k .cipher)) 13 own c
     (b, _, c₂) ← picked spells side (macRule (k .cipher)) 13 own c₁
     compressions compression
-      (record {
-        kex = k .kex;
-        key = k .key;
-        cipher = k .cipher;
-        «client_mac» = a;
-        «server_mac» = b;
-        «client_compression» = 0;
-        «server_compression» = 0;
-        guessed = k .guessed;
-        strict = k .strict
-      })
-      c₂
+        (record {
+          kex = k .kex;
+          key = k .key;
+          cipher = k .cipher;
+          «client_mac» = a;
+          «server_mac» = b;
+          «client_compression» = 0;
+          «server_compression» = 0;
+          guessed = k .guessed;
+          strict = k .strict;
+        })
+        c₂
 
   -- cipher server-to-client string: decoded, not used
   unfoldable pub otherCipher : List ℕ → List ℕ → Rows → At → Out Names
@@ -139,24 +141,28 @@ module _ (spells : ℕ → List ℕ → Bool) (side : Side) where
     (a, f, c₁) ← picked spells side Needed 11 key c
     (b, _, c₂) ← picked spells side Needed 12 cipher c₁
     otherCipher mac compression
-      (record {
-        kex = kex;
-        key = a;
-        cipher = b;
-        «client_mac» = 0;
-        «server_mac» = 0;
-        «client_compression» = 0;
-        «server_compression» = 0;
-        guessed = first && f;
-        strict = isStrict
-      })
-      c₂
+        (record {
+          kex = kex;
+          key = a;
+          cipher = b;
+          «client_mac» = 0;
+          «server_mac» = 0;
+          «client_compression» = 0;
+          «server_compression» = 0;
+          guessed = first && f;
+          strict = isStrict;
+        })
+        c₂
 
   -- The kex list. `asked`: the own preferences hold the own strict name; `strictRow`: the other side's.
   unfoldable pub lists : List ℕ → List ℕ → List ℕ → List ℕ → List ℕ → Bool → ℕ → Bool → At → Out Names
   lists kex key cipher mac compression asked strictRow rekey c = do
     (a, f, c₁) ← picked spells side Needed 10 kex c
     keys key cipher mac compression a f (asked && standsIn spells strictRow c || rekey) c₁
+
+-- the rows of an own list
+abbrev pub front : RowList → List ℕ
+front l = take (l .len) (l .rows)
 
 -- what a `Picked` means
 abbrev pub pickedOf : List ℕ → Picked → Out (ℕ × Bool × At)

@@ -3,10 +3,16 @@
 // Copyright 2016 Pierre-Étienne Meunier, licensed under the Apache License, Version 2.0 (NOTICE); changed: rewritten for
 // lent slices and tables of numbers.
 mod pick;
+mod read;
 mod stages;
 
 use answer::Refusal;
-use names::{CipherId, CompressionId, KexId, KeyId, MacId};
+use names::CipherId;
+use names::CompressionId;
+use names::KexId;
+use names::KeyId;
+use names::MacId;
+pub use read::read_kex;
 
 pub struct Flags {
     pub host_key_is_certificate: bool,

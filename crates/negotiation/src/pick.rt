@@ -4,10 +4,14 @@ ghost use mathlib.Core.Option.{some, none};
 ghost use Rattle.wire.specs.Fields.{here};
 ghost use Rattle.choice.specs.Rows.{spellsIn, chose};
 ghost use Rattle.negotiation.specs.Stages.{ruled, ruling, picked, pickedFrom, pickedAt, standsIn, macRule, pickedOf, whyUnpicked};
-
-use answer::{Refusal, refuse};
-use choice::{Chosen, Side, both_first, choose};
-use wire::answers::{Cursor, GotText};
+use answer::Refusal;
+use answer::refuse;
+use choice::Chosen;
+use choice::Side;
+use choice::both_first;
+use choice::choose;
+use wire::answers::Cursor;
+use wire::answers::GotText;
 
 // What a list without a shared name comes to.
 pub enum Rule {
@@ -137,11 +141,28 @@ pub fn pick_name(
     };
     let start = place.start;
     let end = d.at;
-    pick_from(spellings, starts, lengths, side, rule, number, own, &p[start..end], d)
+    pick_from(
+        spellings,
+        starts,
+        lengths,
+        side,
+        rule,
+        number,
+        own,
+        &p[start..end],
+        d,
+    )
 }
 
 // Whether a row's name stands in the list at the cursor: how a peer offers strict key exchange.
-pub fn stands_in(spellings: &[u8], starts: &[u16], lengths: &[u8], row: u8, p: &[u8], c: Cursor) -> bool
+pub fn stands_in(
+    spellings: &[u8],
+    starts: &[u16],
+    lengths: &[u8],
+    row: u8,
+    p: &[u8],
+    c: Cursor,
+) -> bool
     ensures { λ r. ⌜ r ≡ standsIn (spellsIn (now (spellings .entry)) (now (starts .entry)) (now (lengths .entry))) row (here (now (p .entry)) (c .at)) ⌝ }
 {
     let t = c.run(p);
@@ -151,7 +172,14 @@ pub fn stands_in(spellings: &[u8], starts: &[u16], lengths: &[u8], row: u8, p: &
     let start = place.start;
     let end = d.at;
     let own = [row];
-    let chosen = choose(spellings, starts, lengths, Side::Client, &own, &p[start..end]);
+    let chosen = choose(
+        spellings,
+        starts,
+        lengths,
+        Side::Client,
+        &own,
+        &p[start..end],
+    );
     match chosen {
         Chosen::Row(_) => true,
         Chosen::Nothing => false,

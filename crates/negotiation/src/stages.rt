@@ -7,12 +7,25 @@ ghost use Rattle.wire.specs.Fields.{here};
 ghost use Rattle.choice.specs.Rows.{spellsIn};
 ghost use Rattle.negotiation.specs.Read.{gotNames};
 ghost use Rattle.negotiation.specs.Stages.{keyPlace, recorded, lastFields, languages, compressions, macs, otherCipher, keys, lists};
-
+use crate::Flags;
+use crate::GotNames;
+use crate::Names;
+use crate::pick::Picked;
+use crate::pick::Rule;
+use crate::pick::mac_rule;
+use crate::pick::pick_name;
+use crate::pick::stands_in;
 use choice::Side;
-use names::{CipherId, CompressionId, KexId, KeyId, MacId};
-use wire::answers::{Checked, Cursor, GotByte, GotText, GotWord};
-use crate::pick::{Picked, Rule, mac_rule, pick_name, stands_in};
-use crate::{Flags, GotNames, Names};
+use names::CipherId;
+use names::CompressionId;
+use names::KexId;
+use names::KeyId;
+use names::MacId;
+use wire::answers::Checked;
+use wire::answers::Cursor;
+use wire::answers::GotByte;
+use wire::answers::GotText;
+use wire::answers::GotWord;
 
 // The rows that were chosen so far, and the flags. `guessed`: kex and key are both first.
 pub struct Rows {
@@ -108,11 +121,31 @@ fn compressions(
 ) -> GotNames
     ensures { λ r. ⌜ gotNames r ≡ compressions (spellsIn (now (spellings .entry)) (now (starts .entry)) (now (lengths .entry))) side (now (own .entry)) k (here (now (p .entry)) (c .at)) ⌝ }
 {
-    let a = pick_name(spellings, starts, lengths, side, Rule::Needed, 14, own, p, c);
+    let a = pick_name(
+        spellings,
+        starts,
+        lengths,
+        side,
+        Rule::Needed,
+        14,
+        own,
+        p,
+        c,
+    );
     let Picked::Row(client_compression, _, c1) = a else {
         return GotNames::Refused(a.why());
     };
-    let b = pick_name(spellings, starts, lengths, side, Rule::Needed, 14, own, p, c1);
+    let b = pick_name(
+        spellings,
+        starts,
+        lengths,
+        side,
+        Rule::Needed,
+        14,
+        own,
+        p,
+        c1,
+    );
     let Picked::Row(server_compression, _, c2) = b else {
         return GotNames::Refused(b.why());
     };
@@ -206,11 +239,31 @@ fn keys(
 ) -> GotNames
     ensures { λ r. ⌜ gotNames r ≡ keys (spellsIn (now (spellings .entry)) (now (starts .entry)) (now (lengths .entry))) side (now (key .entry)) (now (cipher .entry)) (now (mac .entry)) (now (compression .entry)) kex first strict (here (now (p .entry)) (c .at)) ⌝ }
 {
-    let a = pick_name(spellings, starts, lengths, side, Rule::Needed, 11, key, p, c);
+    let a = pick_name(
+        spellings,
+        starts,
+        lengths,
+        side,
+        Rule::Needed,
+        11,
+        key,
+        p,
+        c,
+    );
     let Picked::Row(key_row, key_first, c1) = a else {
         return GotNames::Refused(a.why());
     };
-    let b = pick_name(spellings, starts, lengths, side, Rule::Needed, 12, cipher, p, c1);
+    let b = pick_name(
+        spellings,
+        starts,
+        lengths,
+        side,
+        Rule::Needed,
+        12,
+        cipher,
+        p,
+        c1,
+    );
     let Picked::Row(cipher_row, _, c2) = b else {
         return GotNames::Refused(b.why());
     };
@@ -225,7 +278,17 @@ fn keys(
         guessed: first & key_first,
         strict,
     };
-    other_cipher(spellings, starts, lengths, side, mac, compression, next, p, c2)
+    other_cipher(
+        spellings,
+        starts,
+        lengths,
+        side,
+        mac,
+        compression,
+        next,
+        p,
+        c2,
+    )
 }
 
 // All lists from the kex list on. `asked`: the own preferences hold the own strict name; `strict_row` is the other side's.
@@ -247,11 +310,35 @@ pub fn lists(
 ) -> GotNames
     ensures { λ r. ⌜ gotNames r ≡ lists (spellsIn (now (spellings .entry)) (now (starts .entry)) (now (lengths .entry))) side (now (kex .entry)) (now (key .entry)) (now (cipher .entry)) (now (mac .entry)) (now (compression .entry)) asked strictrow rekey (here (now (p .entry)) (c .at)) ⌝ }
 {
-    let a = pick_name(spellings, starts, lengths, side, Rule::Needed, 10, kex, p, c);
+    let a = pick_name(
+        spellings,
+        starts,
+        lengths,
+        side,
+        Rule::Needed,
+        10,
+        kex,
+        p,
+        c,
+    );
     let Picked::Row(kex_row, first, c1) = a else {
         return GotNames::Refused(a.why());
     };
     let offered = stands_in(spellings, starts, lengths, strictrow, p, c);
     let strict = asked & offered | rekey;
-    keys(spellings, starts, lengths, side, key, cipher, mac, compression, kex_row, first, strict, p, c1)
+    keys(
+        spellings,
+        starts,
+        lengths,
+        side,
+        key,
+        cipher,
+        mac,
+        compression,
+        kex_row,
+        first,
+        strict,
+        p,
+        c1,
+    )
 }
