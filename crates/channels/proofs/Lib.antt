@@ -1,1 +1,2 @@
-mod StepLaws
+pub mod PlaceLaws
+pub mod StepLaws

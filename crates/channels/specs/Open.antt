@@ -70,17 +70,22 @@ forwardedStreamLocal c = do
   (_, c₂) ← string c₁
   exact (ForwardedStreamLocal (record { «socket_path» = path .place })) c₂
 
--- the fields of each known type; "any other type is kept as unknown and the rest of the body is handed back as it stands"
+-- the types of OpenSSH; "any other type is kept as unknown and the rest of the body is handed back as it stands"
+unfoldable pub opensshType : Run → At → Out ChannelType
+opensshType t c =
+    pick (same (t .bytes) (bytes "direct-streamlocal@openssh.com")) (directStreamLocal c)
+    (pick (same (t .bytes) (bytes "forwarded-streamlocal@openssh.com")) (forwardedStreamLocal c)
+    (pick (same (t .bytes) (bytes "auth-agent@openssh.com")) (exact AgentForward c)
+    (done (Unknown (t .place) (record { at = c .at })))))
+
+-- the types of RFC 4254, then those
 unfoldable pub channelType : Run → At → Out ChannelType
 channelType t c =
     pick (same (t .bytes) (bytes "session")) (exact Session c)
     (pick (same (t .bytes) (bytes "x11")) (x11 c)
     (pick (same (t .bytes) (bytes "direct-tcpip")) (tcpip DirectTcpip c)
-    (pick (same (t .bytes) (bytes "direct-streamlocal@openssh.com")) (directStreamLocal c)
     (pick (same (t .bytes) (bytes "forwarded-tcpip")) (tcpip ForwardedTcpIp c)
-    (pick (same (t .bytes) (bytes "forwarded-streamlocal@openssh.com")) (forwardedStreamLocal c)
-    (pick (same (t .bytes) (bytes "auth-agent@openssh.com")) (exact AgentForward c)
-    (done (Unknown (t .place) (record { at = c .at })))))))))
+    (opensshType t c))))
 
 -- "An opening body: type, sender, window, maximum packet, then 6 on 0, before the type is looked at."
 unfoldable pub readOpen : List ℕ → Out OpenChannelMessage

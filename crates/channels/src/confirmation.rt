@@ -19,7 +19,7 @@ impl ChannelOpenConfirmation {
         if MOST_BODY < body.len() {
             return GotConfirmation::Refused(refuse(1));
         }
-        let a = Cursor::new(0).u32(body);
+        let a = Cursor { at: 0 }.u32(body);
         let GotWord::Word(recipient_channel, c) = a else {
             return GotConfirmation::Refused(a.why());
         };

@@ -1,7 +1,7 @@
 // CHANNEL_OPEN (RFC 4254 sections 5.1, 6.3.2 and 7.2).
 ghost use mathlib.Core.Path.{_≡_};
 ghost use Rattle.wire.specs.Fields.{here};
-ghost use Rattle.channels.specs.Open.{exact as exactly, x11 as x11Fields, tcpip as tcpipFields, directStreamLocal, forwardedStreamLocal, channelType, readOpen, tcpType, restOf};
+ghost use Rattle.channels.specs.Open.{exact as exactly, x11 as x11Fields, tcpip as tcpipFields, directStreamLocal, forwardedStreamLocal, opensshType, channelType, readOpen, tcpType, restOf};
 ghost use Rattle.channels.specs.Answers.{gotType, gotOpen};
 use crate::ChannelType;
 use crate::GotOpen;
@@ -134,6 +134,21 @@ fn forwarded_stream_local(body: &[u8], c: Cursor) -> GotType
 }
 
 // `name` is the part of the body at `typ`.
+fn openssh_type(body: &[u8], name: &[u8], typ: Place, c: Cursor) -> GotType
+    ensures { λ r. ⌜ gotType r ≡ opensshType (record { place = typ; bytes = now (name .entry) }) (here (now (body .entry)) (c .at)) ⌝ }
+{
+    if text::same(name, b"direct-streamlocal@openssh.com") {
+        return direct_stream_local(body, c);
+    }
+    if text::same(name, b"forwarded-streamlocal@openssh.com") {
+        return forwarded_stream_local(body, c);
+    }
+    if text::same(name, b"auth-agent@openssh.com") {
+        return exact(body, c, ChannelType::AgentForward);
+    }
+    GotType::Typ(ChannelType::Unknown { typ, rest: c })
+}
+
 fn channel_type(body: &[u8], name: &[u8], typ: Place, c: Cursor) -> GotType
     ensures { λ r. ⌜ gotType r ≡ channelType (record { place = typ; bytes = now (name .entry) }) (here (now (body .entry)) (c .at)) ⌝ }
 {
@@ -146,19 +161,10 @@ fn channel_type(body: &[u8], name: &[u8], typ: Place, c: Cursor) -> GotType
     if text::same(name, b"direct-tcpip") {
         return tcpip(body, c, false);
     }
-    if text::same(name, b"direct-streamlocal@openssh.com") {
-        return direct_stream_local(body, c);
-    }
     if text::same(name, b"forwarded-tcpip") {
         return tcpip(body, c, true);
     }
-    if text::same(name, b"forwarded-streamlocal@openssh.com") {
-        return forwarded_stream_local(body, c);
-    }
-    if text::same(name, b"auth-agent@openssh.com") {
-        return exact(body, c, ChannelType::AgentForward);
-    }
-    GotType::Typ(ChannelType::Unknown { typ, rest: c })
+    openssh_type(body, name, typ, c)
 }
 
 impl OpenChannelMessage {
@@ -168,7 +174,7 @@ impl OpenChannelMessage {
         if MOST_BODY < body.len() {
             return GotOpen::Refused(refuse(1));
         }
-        let t = Cursor::new(0).string(body);
+        let t = Cursor { at: 0 }.string(body);
         let GotText::Text(place, c) = t else {
             return GotOpen::Refused(t.why());
         };

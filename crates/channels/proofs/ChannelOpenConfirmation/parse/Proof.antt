@@ -1,3 +1,5 @@
+use Rattle.channels.specs.Open.{readConfirmation}
+use Rattle.channels.proofs.StepLaws.{steps}
 use borrow.Author.Needs.{needs}
 use Rattle.channels.proofs.ChannelOpenConfirmation.parse.Statement.{statement}
 use Rattle.channels.proofs.ChannelOpenConfirmation.parse.Tie as tie
@@ -6,7 +8,6 @@ use Rattle.channels.proofs.ChannelOpenConfirmation.parse.Lts as lts
 use Rattle.answer.proofs.refuse.Reads as refuse-reads
 use Rattle.channels.proofs.fields.GotOffer.why.Reads as fields-GotOffer-why-reads
 use Rattle.channels.proofs.fields.read_offer.Reads as read-offer-reads
-use Rattle.wire.proofs.answers.Cursor.new.Reads as new-reads
 use Rattle.wire.proofs.answers.Cursor.u32.Reads as u32-reads
 use Rattle.wire.proofs.answers.GotWord.why.Reads as answers-GotWord-why-reads
 
@@ -16,11 +17,8 @@ refuse-requires c κs = search needs
 
 -- src/confirmation.rt:20:13
 returns : tie.Need-returns
-returns c = ?
-
--- src/confirmation.rt:22:17
-new-requires : tie.Need-new-requires
-new-requires c κs = search needs
+unfolding readConfirmation
+returns c = search steps
 
 -- src/confirmation.rt:22:13
 u32-requires : tie.Need-u32-requires
@@ -40,7 +38,8 @@ why-requires c κs = search needs
 
 -- src/confirmation.rt:24:13
 returns-2 : tie.Need-returns-2
-returns-2 c = ?
+unfolding readConfirmation
+returns-2 c = search steps
 
 -- src/confirmation.rt:26:13
 read-offer-requires : tie.Need-read-offer-requires
@@ -60,11 +59,13 @@ why-requires-2 c κs = search needs
 
 -- src/confirmation.rt:28:13
 returns-3 : tie.Need-returns-3
-returns-3 c = ?
+unfolding readConfirmation
+returns-3 c = search steps
 
 -- src/confirmation.rt:16:5
 returns-4 : tie.Need-returns-4
-returns-4 c = ?
+unfolding readConfirmation
+returns-4 c = search steps
 
 pub parse-spec : {M : Type 1} → statement M
 parse-spec =
@@ -72,7 +73,6 @@ parse-spec =
     (tie.spec
     refuse-requires
     returns
-    new-requires
     u32-requires
     enum-known-a
     enum-told
