@@ -1,2 +1,4 @@
+pub mod FailureLaws
 pub mod PlaceLaws
+mod RestLaws
 pub mod StepLaws

@@ -1,3 +1,4 @@
+use Rattle.channels.proofs.RestLaws.{rest-laws}
 use borrow.Author.Needs.{needs}
 use Rattle.channels.proofs.OpenChannelMessage.rest.Statement.{statement}
 use Rattle.channels.proofs.OpenChannelMessage.rest.Tie as tie
@@ -15,7 +16,7 @@ slice-aggregate-result c = search needs
 
 -- src/open.rt:199:13
 returns : tie.Need-returns
-returns c = ?
+returns c = search rest-laws
 
 -- src/open.rt:201:9
 rest-requires : tie.Need-rest-requires
@@ -23,7 +24,7 @@ rest-requires c κs = search needs
 
 -- src/open.rt:194:5
 returns-2 : tie.Need-returns-2
-returns-2 c = ?
+returns-2 c = search rest-laws
 
 pub rest-spec : {M : Type 1} → statement M
 rest-spec =
