@@ -1,4 +1,6 @@
 pub mod FailureLaws
+pub mod OpenLaws
 pub mod PlaceLaws
 mod RestLaws
-pub mod StepLaws
+mod StepLaws
+mod WriteLaws

@@ -23,7 +23,6 @@ use Rattle.wire.specs.Fields.{At, Run, here, word, run, string, end}
 use Rattle.wire.specs.Shown.{part}
 use Rattle.wire.specs.Answers.{gotWord, gotText, checked, runAt, whyNoWord, whyNoText, whyNotFine}
 use Rattle.wire.proofs.FieldLaws.{No}
-use Rattle.wire.proofs.RunLaws.{run-inside}
 use Rattle.channels.specs.declared.ChannelType.{ChannelType}
 use Rattle.channels.specs.declared.fields.Offer.{Offer}
 use Rattle.channels.specs.declared.fields.GotOffer.{GotOffer}
@@ -32,7 +31,7 @@ use Rattle.channels.specs.declared.open.GotType.{GotType}
 use Rattle.channels.specs.declared.open.GotType.the-variants.{Typ, Refused as NoType}
 use Rattle.channels.specs.Open.{offer, exact, channelType}
 use Rattle.channels.specs.Answers.{gotOffer, gotType, whyNoOffer}
-use Rattle.channels.proofs.PlaceLaws.{string-run}
+use Rattle.channels.proofs.PlaceLaws.{Ran, first-ran}
 
 module _ {B : Type 0} (s : List ℕ) (c : At) where
   module _ (w : GotWord) (f : ℕ × At → Out B) (told : gotWord s w ≡ word c) where
@@ -108,18 +107,18 @@ module _ {B : Type 0} (t u : List ℕ) (b : Bool) (told : b ≡ same t u) (x y m
 pub ruleset names = (named, not-named)
 
 -- the type's name, which the code takes as the part of the body from the name's start up to the next field
-module _ (s : List ℕ) (i : ℕ) (w : GotText) (told : gotText s w ≡ string (here s i)) (p : Place) (d : Cursor) (e : w ≡ Text p d) where
-  ran : done (runAt s p, here s (d .at)) ≡ run (here s i)
-  ran = string-run s i p (d .at) (rw e at told)
+module _ (s : List ℕ) (w : GotText) (told : gotText s w ≡ string (here s 0)) (p : Place) (d : Cursor) (e : w ≡ Text p d) where
+  ran : Ran s (runAt s p) (here s (d .at))
+  ran = first-ran s (runAt s p) (here s (d .at)) (sym (rw e at told))
 
   pub name-order : p .start ≤ d .at
-  name-order = let h = run-inside s i p (d .at) ran in omega arith
+  name-order = let h = ran .ends in omega arith
 
   pub name-within : d .at ≤ length s
-  name-within = run-inside s i p (d .at) ran .within
+  name-within = ran .then .within
 
   name-bytes : take (d .at - p .start) (drop (p .start) s) ≡ part p s
-  name-bytes = let h = run-inside s i p (d .at) ran in let l : d .at - p .start ≡ p .len = omega arith in rw l
+  name-bytes = let h = ran .ends in let l : d .at - p .start ≡ p .len = omega arith in rw l
 
   module _ {B : Type 0} (c : At) (k : GotType) (f : ChannelType → Out B)
       (said : gotType k ≡ channelType (record { place = p; bytes = take (d .at - p .start) (drop (p .start) s) }) c) where

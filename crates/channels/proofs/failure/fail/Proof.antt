@@ -1,4 +1,4 @@
-use Rattle.channels.proofs.FailureLaws.{failure-laws}
+use Rattle.channels.proofs.WriteLaws.{refusal-laws}
 use borrow.Author.Needs.{needs}
 use Rattle.channels.proofs.failure.fail.Statement.{statement}
 use Rattle.channels.proofs.failure.fail.Tie as tie
@@ -13,7 +13,7 @@ refuse-requires c κs = search needs
 
 -- src/failure.rt:41:9
 returns : tie.Need-returns
-returns c = search failure-laws
+returns c = search refusal-laws
 
 -- src/failure.rt:43:20
 add-if2 : tie.Need-add-if2
@@ -25,7 +25,7 @@ refuse-requires-2 c κs = search needs
 
 -- src/failure.rt:44:9
 returns-2 : tie.Need-returns-2
-returns-2 c = search failure-laws
+returns-2 c = search refusal-laws
 
 -- src/failure.rt:46:5
 write-requires : tie.Need-write-requires

@@ -1,4 +1,4 @@
-use Rattle.channels.proofs.FailureLaws.{all-put}
+use Rattle.channels.proofs.WriteLaws.{all-put}
 use borrow.Author.Needs.{needs}
 use Rattle.channels.proofs.failure.write.Statement.{statement}
 use Rattle.channels.proofs.failure.write.Tie as tie
