@@ -5,7 +5,7 @@ use Prim.Native.Nat.{ℕ, _+_, _≤_, _<_}
 use native.Mathlib.Omega.{arith}
 use borrow.Author.Tests.{le-leb, lt-leb}
 use lib.ListN.{length, length-append}
-use Rattle.answer.specs.Answer.{Out, done, refuse, _>>=_}
+use Rattle.answer.specs.Answer.{done, refuse, _>>=_}
 use Rattle.answer.proofs.Laws.{pass, stop, un-done}
 use Rattle.put.specs.Written.{word}
 use Rattle.channels.specs.Failure.{failure, payload, unknownType}

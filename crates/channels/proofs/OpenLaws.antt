@@ -6,7 +6,7 @@ use borrow.Author.Tests.{le-leb}
 use lib.ListN.{length}
 use Rattle.answer.specs.Answer.{refused, done, refuse, _>>=_}
 use Rattle.answer.specs.declared.Refusal.{Refusal}
-use Rattle.wire.specs.Fields.{At, Run, here, word, string, end}
+use Rattle.wire.specs.Fields.{At, Run, here, word, string}
 use Rattle.channels.specs.declared.ChannelType.the-variants.{DirectStreamLocal, ForwardedStreamLocal}
 use Rattle.channels.specs.declared.GotOpen.{GotOpen}
 use Rattle.channels.specs.declared.GotOpen.the-variants.{Message, Refused as NotOpened}

@@ -1,5 +1,5 @@
 -- Every place in an accepted record lies inside the body that was read, and holds well-formed text. Assumes nothing.
-use mathlib.Core.Path.{_≡_, refl, ap, sym, _∙_}
+use mathlib.Core.Path.{_≡_, refl, sym}
 use mathlib.Core.Bool.{Bool, true, false, not}
 use mathlib.Core.List.{List}
 use Prim.Native.Nat.{ℕ, _+_, _≤_}
@@ -9,14 +9,15 @@ use borrow.Author.Tests.{leb-true}
 use lib.Dec.{leb, eqb}
 use lib.ListN.{length, drop, length-drop}
 use lib.Seq.{drop-drop}
-use Rattle.answer.specs.Answer.{Out, refused, done, guard, pick, _>>=_}
+use Rattle.answer.specs.Answer.{Out, refused, done, guard, _>>=_}
 use Rattle.answer.proofs.Laws.{split, not-both}
 use Rattle.text.specs.Literal.{bytes}
 use Rattle.text.specs.Same.{same}
 use Rattle.text.specs.Utf8.{utf8}
 use Rattle.wire.specs.declared.answers.Place.{Place}
 use Rattle.wire.specs.Fields.{At, Run, here, word, run, string, end}
-use Rattle.wire.specs.Shown.{part}
+use Rattle.wire.specs.Shown.{part, shown}
+use Rattle.wire.proofs.ShowLaws.{inside}
 use Rattle.channels.specs.declared.ChannelType.{ChannelType}
 use Rattle.channels.specs.declared.ChannelType.the-variants.{Session, X11, DirectTcpip, DirectStreamLocal, ForwardedTcpIp, ForwardedStreamLocal, AgentForward, Unknown}
 use Rattle.channels.specs.declared.TcpChannelInfo.{TcpChannelInfo}
@@ -56,6 +57,10 @@ pub record Ran (b : List ℕ) (t : Run) (c : At) : Type 0 where
 pub record Lies (b : List ℕ) (p : Place) : Type 0 where
   pub inside : p .start + p .len ≤ length b
   pub text : utf8 (part p b) ≡ true
+
+-- such text is shown, as the bytes that were read
+pub lies-shown : (b : List ℕ) (p : Place) → Lies b p → shown b p ≡ done (part p b)
+lies-shown b p l = inside b p (l .inside)
 
 module _ (b : List ℕ) where
   moved : (n : ℕ) (c : At) → On b c → leb n (length (c .left)) ≡ true → On b (record { at = c .at + n; left = drop n (c .left) })

@@ -1,6 +1,6 @@
 -- One step of a reader at a time: a law for each way on and for each way out, in the words of the code's tests and of what
 -- its callees ensure. Assumes nothing.
-use mathlib.Core.Path.{_≡_, refl, sym, _∙_}
+use mathlib.Core.Path.{_≡_, refl, sym}
 use mathlib.Core.Bool.{Bool, true, false, not}
 use mathlib.Core.List.{List}
 use Prim.Native.Nat.{ℕ, _-_, _≤_, _<_}
@@ -8,7 +8,7 @@ use native.Mathlib.Omega.{arith}
 use borrow.Author.Tests.{le-leb, lt-leb, eq-eqb, ne-eqb}
 use lib.Dec.{leb, eqb}
 use lib.ListN.{length, take, drop}
-use Rattle.answer.specs.Answer.{Out, refused, done, guard, pick, _>>=_}
+use Rattle.answer.specs.Answer.{Out, refused, guard, pick, _>>=_}
 use Rattle.answer.specs.declared.Refusal.{Refusal}
 use Rattle.text.specs.Same.{same}
 use Rattle.wire.specs.declared.answers.Cursor.{Cursor}
@@ -19,7 +19,7 @@ use Rattle.wire.specs.declared.answers.GotText.{GotText}
 use Rattle.wire.specs.declared.answers.GotText.the-variants.{Text, Refused as NoText}
 use Rattle.wire.specs.declared.answers.Checked.{Checked}
 use Rattle.wire.specs.declared.answers.Checked.the-variants.{Fine, Refused as NotFine}
-use Rattle.wire.specs.Fields.{At, Run, here, word, run, string, end}
+use Rattle.wire.specs.Fields.{At, Run, here, word, string, end}
 use Rattle.wire.specs.Shown.{part}
 use Rattle.wire.specs.Answers.{gotWord, gotText, checked, runAt, whyNoWord, whyNoText, whyNotFine}
 use Rattle.wire.proofs.FieldLaws.{No}

@@ -51,9 +51,10 @@ module _ (out : List ℕ) (recipient reason : ℕ) (text : List ℕ) (short : le
       let w = whole recipient reason text in
       let f = failure-short recipient reason text short in
       let j = front-length recipient reason text in
-      let e = string-short (bytes "en") (omega arith) in
-      (rw (k, e, f, ← w, four, j) (both-written out 0 x y),
-      rw (l, e, f, ← w) (put-on out out₄ 0 (13 + length text) x y four j (omega (arith, ap length w, payload-length recipient reason text))))
+      let e = string-short (bytes "en") (omega arith) in (
+        rw (k, e, f, ← w, four, j) (both-written out 0 x y),
+        rw (l, e, f, ← w) (put-on out out₄ 0 (13 + length text) x y four j (omega (arith, ap length w, payload-length recipient reason text))),
+      )
 
 -- the two refusals change nothing
 module _ (out : List ℕ) (recipient reason : ℕ) (text : List ℕ) where

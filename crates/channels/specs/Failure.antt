@@ -1,9 +1,9 @@
 -- CHANNEL_OPEN_FAILURE (RFC 4254 section 5.1), as `fail` and `unknown_type` of src/parsing.rs write it.
-use mathlib.Core.List.{List, [], _∷_, _++_}
+use mathlib.Core.List.{List, _∷_, _++_}
 use Prim.Native.Nat.{ℕ}
 use lib.Dec.{leb}
 use lib.ListN.{length}
-use Rattle.answer.specs.Answer.{Out, refused, done, guard, _>>=_}
+use Rattle.answer.specs.Answer.{Out, done, guard, _>>=_}
 use Rattle.text.specs.Literal.{bytes}
 use Rattle.put.specs.Written.{word}
 

@@ -5,14 +5,13 @@ use mathlib.Core.List.{List, []}
 use Prim.Native.Nat.{ℕ}
 use lib.Dec.{leb, eqb}
 use lib.ListN.{length, drop}
-use Rattle.answer.specs.Answer.{Out, refused, done, guard, pick, _>>=_}
+use Rattle.answer.specs.Answer.{Out, done, guard, pick, _>>=_}
 use Rattle.text.specs.Literal.{bytes}
 use Rattle.text.specs.Same.{same}
 use Rattle.wire.specs.Fields.{At, Run, here, word, string, end}
 use Rattle.channels.specs.declared.ChannelType.{ChannelType}
 use Rattle.channels.specs.declared.ChannelType.the-variants.{Session, X11, DirectTcpip, DirectStreamLocal, ForwardedTcpIp, ForwardedStreamLocal, AgentForward, Unknown}
 use Rattle.channels.specs.declared.TcpChannelInfo.{TcpChannelInfo}
-use Rattle.channels.specs.declared.StreamLocalChannelInfo.{StreamLocalChannelInfo}
 use Rattle.channels.specs.declared.OpenChannelMessage.{OpenChannelMessage}
 use Rattle.channels.specs.declared.ChannelOpenConfirmation.{ChannelOpenConfirmation}
 use Rattle.channels.specs.declared.fields.Offer.{Offer}

@@ -8,8 +8,8 @@ ghost use Rattle.channels.specs.Failure.{failure, unknownType, mostText}
 use answer::refuse;
 use put::Put;
 use put::put_string;
-use put::put_u32;
 use put::put_u8;
+use put::put_u32;
 
 const CHANNEL_OPEN_FAILURE: u8 = 92;
 
@@ -50,5 +50,10 @@ pub fn unknown_type(recipient: u32, out: &mut [u8]) -> Put
     ensures answer { λ r. ⌜ put r ≡ written (now (out .entry)) 0 (unknownType recipient) ⌝ }
     ensures bytes { λ r. ⌜ now (out .exit) ≡ buffer (now (out .entry)) 0 (unknownType recipient) ⌝ }
 {
-    fail(recipient, SSH_OPEN_UNKNOWN_CHANNEL_TYPE, b"Unknown channel type", out)
+    fail(
+        recipient,
+        SSH_OPEN_UNKNOWN_CHANNEL_TYPE,
+        b"Unknown channel type",
+        out,
+    )
 }

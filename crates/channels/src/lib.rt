@@ -6,11 +6,10 @@ mod fields;
 mod open;
 
 use answer::Refusal;
-use wire::answers::Cursor;
-use wire::answers::Place;
-
 pub use failure::fail;
 pub use failure::unknown_type;
+use wire::answers::Cursor;
+use wire::answers::Place;
 
 pub struct TcpChannelInfo {
     pub host_to_connect: Place,
