@@ -69,15 +69,15 @@ module _ (b : List ℕ) where
       let l = leb-true n (length (c .left)) t in
       record { left = rw (e, drop-drop); within = omega (arith, simp (e, length-drop) at l) }
 
-  word-on : (c : At) → On b c → Post (λ (x : ℕ × At). On b (x .1)) (word c)
+  word-on : (c : At) → On b c → Post (λ (x : ℕ × At). On b (x .1) × (x .1 .at ≡ c .at + 4)) (word c)
   unfolding word
-  word-on c o = on _ (guard 2 (leb 4 (length (c .left)))) _ (λ u g. moved 4 c o (passed 2 _ u g))
+  word-on c o = on _ (guard 2 (leb 4 (length (c .left)))) _ (λ u g. (moved 4 c o (passed 2 _ u g), refl))
 
   run-on : (c : At) → On b c → Post (λ (x : Run × At). Ran b (x .0) (x .1)) (run c)
   unfolding run
   run-on c o =
       on _ (word c) _ (λ x e.
-      let d = of (λ (x : ℕ × At). On b (x .1)) (word c) x (word-on c o) e in
+      let d = of (λ (x : ℕ × At). On b (x .1) × (x .1 .at ≡ c .at + 4)) (word c) x (word-on c o) e .0 in
       on _ (guard 2 (leb (x .0) (length (x .1 .left)))) _ (λ u g.
       record { bytes = rw (d .left); ends = refl; then = moved (x .0) (x .1) d (passed 2 _ u g) }))
 
@@ -97,7 +97,8 @@ module _ (b : List ℕ) where
   pub first-ran : (t : Run) (c : At) → string (here b 0) ≡ done (t, c) → Ran b t c
   first-ran t c e = of (λ (x : Run × At). Ran b (x .0) (x .1) × Lies b (x .0 .place)) (string (here b 0)) (t, c) (string-on (here b 0) start-on) e .0
 
--- the places of a type, each in its body; the rest of an unknown one starts inside, too
+-- the places of a type, each in its body; the rest of an unknown one starts inside, too, after the three numbers that
+-- follow the type's name
 abbrev pub Placed : List ℕ → ChannelType → Type 0
 Placed b Session = Unit {0}
 Placed b (X11 address port) = Lies b address
@@ -106,7 +107,7 @@ Placed b (DirectStreamLocal i) = Lies b (i .«socket_path»)
 Placed b (ForwardedTcpIp i) = Lies b (i .«host_to_connect») × Lies b (i .«originator_address»)
 Placed b (ForwardedStreamLocal i) = Lies b (i .«socket_path»)
 Placed b AgentForward = Unit {0}
-Placed b (Unknown typ rest) = Lies b typ × (rest .at ≤ length b)
+Placed b (Unknown typ rest) = Lies b typ × (rest .at ≤ length b) × (rest .at ≡ typ .start + typ .len + 12)
 
 abbrev is : Run → String → Bool
 is t name = same (t .bytes) (bytes name)
@@ -114,20 +115,22 @@ is t name = same (t .bytes) (bytes name)
 abbrev Message : List ℕ → OpenChannelMessage → Type 0
 Message b m = Placed b (m .typ)
 
-abbrev Next : List ℕ → Offer × At → Type 0
-Next b x = On b (x .1)
+abbrev Next : List ℕ → ℕ → Offer × At → Type 0
+Next b n x = On b (x .1) × (x .1 .at ≡ n + 12)
 
 module _ (b : List ℕ) where
   -- a step over a field, with what is known of it
   text : {B : Type 0} (P : B → Type 0) (c : At) (f : Run × At → Out B) → On b c
-      → ((x : Run × At) → On b (x .1) → Lies b (x .0 .place) → Post P (f x)) → Post P (string c >>= f)
+      → ((x : Run × At) → Ran b (x .0) (x .1) → Lies b (x .0 .place) → Post P (f x)) → Post P (string c >>= f)
   text P c f o h =
       on P (string c) f (λ x e.
       let r = of (λ (x : Run × At). Ran b (x .0) (x .1) × Lies b (x .0 .place)) (string c) x (string-on b c o) e in
-      h x (r .0 .then) (r .1))
+      h x (r .0) (r .1))
 
-  number : {B : Type 0} (P : B → Type 0) (c : At) (f : ℕ × At → Out B) → On b c → ((x : ℕ × At) → On b (x .1) → Post P (f x)) → Post P (word c >>= f)
-  number P c f o h = on P (word c) f (λ x e. h x (of (λ (x : ℕ × At). On b (x .1)) (word c) x (word-on b c o) e))
+  number : {B : Type 0} (P : B → Type 0) (c : At) (f : ℕ × At → Out B) → On b c
+      → ((x : ℕ × At) → On b (x .1) → x .1 .at ≡ c .at + 4 → Post P (f x)) → Post P (word c >>= f)
+  number P c f o h =
+      on P (word c) f (λ x e. let k = of (λ (x : ℕ × At). On b (x .1) × (x .1 .at ≡ c .at + 4)) (word c) x (word-on b c o) e in h x (k .0) (k .1))
 
   exact-placed : (t : ChannelType) (c : At) → Placed b t → Post (Placed b) (exact t c)
   unfolding exact
@@ -135,48 +138,53 @@ module _ (b : List ℕ) where
 
   x11-placed : (c : At) → On b c → Post (Placed b) (x11 c)
   unfolding x11
-  x11-placed c o = text (Placed b) c _ o (λ x o₁ l. number (Placed b) (x .1) _ o₁ (λ y o₂. exact-placed _ (y .1) l))
+  x11-placed c o = text (Placed b) c _ o (λ x r l. number (Placed b) (x .1) _ (r .then) (λ y o₁ a. exact-placed _ (y .1) l))
 
   tcpip-placed : (made : TcpChannelInfo → ChannelType) (c : At) → On b c
       → ((i : TcpChannelInfo) → Lies b (i .«host_to_connect») → Lies b (i .«originator_address») → Placed b (made i))
       → Post (Placed b) (tcpip made c)
   unfolding tcpip
   tcpip-placed made c o h =
-      text (Placed b) c _ o (λ x o₁ l. number (Placed b) (x .1) _ o₁ (λ y o₂.
-      text (Placed b) (y .1) _ o₂ (λ z o₃ m. number (Placed b) (z .1) _ o₃ (λ w o₄. exact-placed _ (w .1) (h _ l m)))))
+      text (Placed b) c _ o (λ x r l. number (Placed b) (x .1) _ (r .then) (λ y o₁ a.
+      text (Placed b) (y .1) _ o₁ (λ z s m. number (Placed b) (z .1) _ (s .then) (λ w o₂ d. exact-placed _ (w .1) (h _ l m)))))
 
   direct-placed : (c : At) → On b c → Post (Placed b) (directStreamLocal c)
   unfolding directStreamLocal
   direct-placed c o =
-      text (Placed b) c _ o (λ x o₁ l. text (Placed b) (x .1) _ o₁ (λ y o₂ m. number (Placed b) (y .1) _ o₂ (λ z o₃. exact-placed _ (z .1) l)))
+      text (Placed b) c _ o (λ x r l. text (Placed b) (x .1) _ (r .then) (λ y s m.
+      number (Placed b) (y .1) _ (s .then) (λ z o₁ a. exact-placed _ (z .1) l)))
 
   forwarded-placed : (c : At) → On b c → Post (Placed b) (forwardedStreamLocal c)
   unfolding forwardedStreamLocal
-  forwarded-placed c o = text (Placed b) c _ o (λ x o₁ l. text (Placed b) (x .1) _ o₁ (λ y o₂ m. exact-placed _ (y .1) l))
+  forwarded-placed c o = text (Placed b) c _ o (λ x r l. text (Placed b) (x .1) _ (r .then) (λ y s m. exact-placed _ (y .1) l))
 
-  type-placed : (t : Run) (c : At) → Lies b (t .place) → On b c → Post (Placed b) (channelType t c)
+  type-placed : (t : Run) (c : At) → Lies b (t .place) → On b c → c .at ≡ t .place .start + t .place .len + 12 → Post (Placed b) (channelType t c)
   unfolding channelType opensshType
-  type-placed t c l o =
+  type-placed t c l o a =
       split (is t "session") (λ e. rw e (exact-placed Session c tt)) (λ e. rw e
       (split (is t "x11") (λ e. rw e (x11-placed c o)) (λ e. rw e
       (split (is t "direct-tcpip") (λ e. rw e (tcpip-placed DirectTcpip c o (λ i h k. (h, k)))) (λ e. rw e
       (split (is t "forwarded-tcpip") (λ e. rw e (tcpip-placed ForwardedTcpIp c o (λ i h k. (h, k)))) (λ e. rw e
       (split (is t "direct-streamlocal@openssh.com") (λ e. rw e (direct-placed c o)) (λ e. rw e
       (split (is t "forwarded-streamlocal@openssh.com") (λ e. rw e (forwarded-placed c o)) (λ e. rw e
-      (split (is t "auth-agent@openssh.com") (λ e. rw e (exact-placed AgentForward c tt)) (λ e. rw e (l, o .within))))))))))))))
+      (split (is t "auth-agent@openssh.com") (λ e. rw e (exact-placed AgentForward c tt)) (λ e. rw e (l, o .within, a))))))))))))))
 
-  offer-on : (c : At) → On b c → Post (Next b) (offer c)
+  offer-on : (c : At) → On b c → Post (Next b (c .at)) (offer c)
   unfolding offer
   offer-on c o =
-      number (Next b) c _ o (λ x o₁. number (Next b) (x .1) _ o₁ (λ y o₂.
-      number (Next b) (y .1) _ o₂ (λ z o₃. on (Next b) (guard 6 (not (eqb (z .0) 0))) _ (λ u g. o₃))))
+      let P = Next b (c .at) in
+      number P c _ o (λ x o₁ i. number P (x .1) _ o₁ (λ y o₂ j. number P (y .1) _ o₂ (λ z o₃ k.
+      on P (guard 6 (not (eqb (z .0) 0))) _ (λ u g. (o₃, omega arith)))))
 
   open-placed : Post (Message b) (readOpen b)
   unfolding readOpen
   open-placed =
-      on (Message b) (guard 1 (leb (length b) mostBody)) _ (λ u g. text (Message b) (here b 0) _ (start-on b) (λ x o l.
-      on (Message b) (offer (x .1)) _ (λ y e. on (Message b) (channelType (x .0) (y .1)) _ (λ t k.
-      of (Placed b) (channelType (x .0) (y .1)) t (type-placed (x .0) (y .1) l (of (Next b) (offer (x .1)) y (offer-on (x .1) o) e)) k))))
+      let P = Message b in
+      on P (guard 1 (leb (length b) mostBody)) _ (λ u g. text P (here b 0) _ (start-on b) (λ x r l.
+      on P (offer (x .1)) _ (λ y e. on P (channelType (x .0) (y .1)) _ (λ t k.
+      let n = of (Next b (x .1 .at)) (offer (x .1)) y (offer-on (x .1) (r .then)) e in
+      let f = r .ends in
+      of (Placed b) (channelType (x .0) (y .1)) t (type-placed (x .0) (y .1) l (n .0) (omega (arith, n .1))) k))))
 
   -- what the reader accepts names only places in the body
   pub accepted-placed : (m : OpenChannelMessage) → readOpen b ≡ done m → Placed b (m .typ)
