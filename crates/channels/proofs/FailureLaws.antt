@@ -11,7 +11,8 @@ use Rattle.put.specs.Written.{word}
 use Rattle.channels.specs.Failure.{failure, payload, unknownType}
 
 -- a text of up to 1,024 bytes is written, a longer one refused with 1
-pub failure-short : (recipient reason : ℕ) (text : List ℕ) → length text ≤ 1024 → failure recipient reason text ≡ done (payload recipient reason text)
+pub failure-short : (recipient reason : ℕ) (text : List ℕ) → length text ≤ 1024
+    → failure recipient reason text ≡ done (payload recipient reason text)
 unfolding failure
 failure-short recipient reason text h = pass 1 _ _ (le-leb (length text) 1024 h)
 

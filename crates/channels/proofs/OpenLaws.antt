@@ -29,7 +29,8 @@ gotConfirmation-unique (NotConfirmed r) (Confirmed m) e = cc
 gotConfirmation-unique (NotConfirmed q) (NotConfirmed r) e = cc
 
 -- a maximum packet of 0 is 6, whatever the sender and the window are
-module _ (c c₁ c₂ c₃ : At) (sender window : ℕ) (e : word c ≡ done (sender, c₁)) (f : word c₁ ≡ done (window, c₂)) (g : word c₂ ≡ done (0, c₃)) where
+module _ (c c₁ c₂ c₃ : At) (sender window : ℕ) (e : word c ≡ done (sender, c₁)) (f : word c₁ ≡ done (window, c₂))
+    (g : word c₂ ≡ done (0, c₃)) where
   pub zero-offer : offer c ≡ refuse 6
   unfolding offer _>>=_
   zero-offer = rw (e, f, g)
@@ -39,7 +40,8 @@ module _ (c c₁ c₂ c₃ : At) (sender window : ℕ) (e : word c ≡ done (sen
   unfolding readOpen _>>=_
   zero-open b t h k = rw (le-leb (length b) mostBody h, k, zero-offer)
 
-  pub zero-confirmation : (b : List ℕ) (recipient : ℕ) → length b ≤ mostBody → word (here b 0) ≡ done (recipient, c) → readConfirmation b ≡ refuse 6
+  pub zero-confirmation : (b : List ℕ) (recipient : ℕ) → length b ≤ mostBody → word (here b 0) ≡ done (recipient, c)
+      → readConfirmation b ≡ refuse 6
   unfolding readConfirmation _>>=_
   zero-confirmation b recipient h k = rw (le-leb (length b) mostBody h, k, zero-offer)
 
@@ -59,7 +61,8 @@ module _ (c c₁ : At) (path : Run) (e : string c ≡ done (path, c₁)) where
     unfolding directStreamLocal _>>=_
     direct-number r g = rw (e, f, g)
 
-    pub direct-not-kept : (n : ℕ) (c₃ : At) → word c₂ ≡ done (n, c₃) → directStreamLocal c ≡ exact (DirectStreamLocal (record { «socket_path» = path .place })) c₃
+    pub direct-not-kept : (n : ℕ) (c₃ : At) → word c₂ ≡ done (n, c₃)
+        → directStreamLocal c ≡ exact (DirectStreamLocal (record { «socket_path» = path .place })) c₃
     unfolding directStreamLocal _>>=_
     direct-not-kept n c₃ g = rw (e, f, g)
 

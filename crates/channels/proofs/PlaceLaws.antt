@@ -158,7 +158,8 @@ module _ (b : List ℕ) where
   unfolding forwardedStreamLocal
   forwarded-placed c o = text (Placed b) c _ o (λ x r l. text (Placed b) (x .1) _ (r .then) (λ y s m. exact-placed _ (y .1) l))
 
-  type-placed : (t : Run) (c : At) → Lies b (t .place) → On b c → c .at ≡ t .place .start + t .place .len + 12 → Post (Placed b) (channelType t c)
+  type-placed : (t : Run) (c : At) → Lies b (t .place) → On b c → c .at ≡ t .place .start + t .place .len + 12
+      → Post (Placed b) (channelType t c)
   unfolding channelType opensshType
   type-placed t c l o a =
       split (is t "session") (λ e. rw e (exact-placed Session c tt)) (λ e. rw e

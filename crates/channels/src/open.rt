@@ -168,6 +168,7 @@ fn channel_type(body: &[u8], name: &[u8], typ: Place, c: Cursor) -> GotType
 }
 
 impl OpenChannelMessage {
+    // The type is looked at last: a maximum packet of 0 is refused whatever the type is.
     pub fn parse(body: &[u8]) -> GotOpen
         ensures { λ r. ⌜ gotOpen r ≡ readOpen (now (body .entry)) ⌝ }
     {
