@@ -1,6 +1,13 @@
-// Channel opening (RFC 4254 sections 5.1, 6.3.2 and 7.2): src/parsing.rs of russh, with places for its owned strings.
+// Channel opening (RFC 4254 sections 5.1, 6.3.2 and 7.2): src/parsing.rs of russh. A string of a record is a place in the
+// body that was read; `wire::show::show` hands each of them back as the part of the lent slice that it is.
+mod confirmation;
+mod failure;
+mod fields;
+mod open;
 
 use answer::Refusal;
+pub use failure::fail;
+pub use failure::unknown_type;
 use wire::answers::Cursor;
 use wire::answers::Place;
 
@@ -33,6 +40,7 @@ pub enum ChannelType {
     },
 }
 
+// Named, as in the Rust, for whoever answers: the opening's sender is the recipient of the answer.
 pub struct OpenChannelMessage {
     pub typ: ChannelType,
     pub recipient_channel: u32,

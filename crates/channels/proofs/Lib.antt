@@ -1,0 +1,6 @@
+pub mod FailureLaws
+pub mod OpenLaws
+pub mod PlaceLaws
+mod RestLaws
+mod StepLaws
+mod WriteLaws
