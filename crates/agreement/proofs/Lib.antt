@@ -1,0 +1,4 @@
+pub mod WalkLaws
+pub mod SharedLaws
+pub mod OwnLaws
+pub mod ProtectedLaws

@@ -1,0 +1,80 @@
+-- The own lists of valid tables, in names. Assumes nothing.
+use mathlib.Core.Path.{_≡_, refl, sym, ap, _∙_}
+use mathlib.Core.Bool.{Bool, true, false, _&&_, _||_, or-true}
+use mathlib.Core.List.{List, [], _∷_, _++_, map}
+use mathlib.Core.Option.{Option, some, none}
+use Prim.Native.Nat.{ℕ, _+_, _<_, _≤_}
+use native.Mathlib.Omega.{arith}
+use lib.Dec.{ltb, leb, eqb}
+use lib.ListN.{length, getD}
+use borrow.Author.Tests.{ltb-true, leb-true, eq-eqb}
+use Rattle.answer.specs.Answer.{pick}
+use Rattle.answer.proofs.Laws.{split, and-left, and-right}
+use Rattle.text.specs.Same.{same}
+use Rattle.text.proofs.SameLaws.{same-self, same-equal, never}
+use Rattle.wire.specs.Names.{every}
+use Rattle.names.specs.Tables.{namesOf, firstRow}
+use Rattle.names.specs.Lookup.{numberOf}
+use Rattle.names.specs.declared.Kind.{Kind}
+use Rattle.names.specs.declared.Kind.the-variants.{Kex, Key, Certificate, Cipher, Mac, Compression}
+use Rattle.names.proofs.TableLaws.{row-of, number-back}
+use Rattle.choice.specs.Choice.{listed}
+use Rattle.choice.specs.Rows.{rowSpelled, spelledRows}
+use Rattle.preferred.specs.Tables.{Tables, valid, goodList, goodRows, mostEntries}
+use Rattle.preferred.specs.Own.{member, rows}
+use Rattle.negotiation.specs.Read.{number}
+
+abbrev pub inKind : Kind → ℕ → Bool
+inKind k n = ltb n (length (namesOf k))
+
+-- what `valid` says of each list
+pub record Good (k : Kind) (ns : List ℕ) : Type 0 where
+  pub most : length ns ≤ mostEntries
+  pub inTable : every (inKind k) ns ≡ true
+
+pub good : (k : Kind) (ns : List ℕ) → goodList k ns ≡ true → Good k ns
+unfolding goodList
+good k ns h =
+    record {
+      most = leb-true (length ns) mostEntries (and-left (leb (length ns) mostEntries) (every (inKind k) ns) h);
+      inTable = and-right (leb (length ns) mostEntries) (every (inKind k) ns) h;
+    }
+
+pub record Valid (t : Tables) : Type 0 where
+  pub kex : goodList Kex (t .kex) ≡ true
+  pub key : goodList Key (t .key) ≡ true
+  pub certificate : goodList Certificate (t .certificate) ≡ true
+  pub cipher : goodList Cipher (t .cipher) ≡ true
+  pub mac : goodList Mac (t .mac) ≡ true
+  pub compression : goodList Compression (t .compression) ≡ true
+
+pub lists-good : (t : Tables) → valid t ≡ true → Valid t
+unfolding valid
+lists-good t h =
+    record {
+      kex = search (and-left, and-right) depth 14;
+      key = search (and-left, and-right) depth 14;
+      certificate = search (and-left, and-right) depth 14;
+      cipher = search (and-left, and-right) depth 14;
+      mac = search (and-left, and-right) depth 14;
+      compression = search (and-left, and-right) depth 14;
+    }
+
+-- a name of an own list: its number, which is among the preferred ones
+pub record Known (k : Kind) (ns : List ℕ) (name : List ℕ) : Type 0 where
+  pub place : ℕ
+  pub below : place < length (namesOf k)
+  pub spelt : getD (namesOf k) place [] ≡ name
+  pub found : number k name ≡ place
+
+pub known : (k : Kind) (ns : List ℕ) (name : List ℕ) → every (inKind k) ns ≡ true → listed name (spelledRows (rows k ns)) ≡ true → Known k ns name
+unfolding listed rowSpelled number
+known k [] name g h = never (cc)
+known k (n ∷ ns) name g h =
+    let l : n < length (namesOf k) = ltb-true n (length (namesOf k)) (and-left (inKind k n) (every (inKind k) ns) g) in
+    split (same (getD (namesOf k) n []) name)
+    (λ e. let s = same-equal (getD (namesOf k) n []) name e in
+    record { place = n; below = l; spelt = s; found = rw (← s, number-back k n l) })
+    (λ e.
+    let r = known k ns name (and-right (inKind k n) (every (inKind k) ns) g) (rw (row-of k n l, e) at h) in
+    record { place = r .place; below = r .below; spelt = r .spelt; found = r .found })
