@@ -1,4 +1,9 @@
 pub mod WalkLaws
 pub mod SharedLaws
+pub mod KeptLaws
 pub mod OwnLaws
+pub mod FewLaws
+pub mod WrittenLaws
+pub mod ApartLaws
+pub mod AgreeLaws
 pub mod ProtectedLaws

@@ -7,7 +7,7 @@ use Prim.Native.Nat.{ℕ, _+_, _<_, _≤_}
 use native.Mathlib.Omega.{arith}
 use lib.Dec.{ltb, leb, eqb}
 use lib.ListN.{length, getD}
-use borrow.Author.Tests.{ltb-true, leb-true, eq-eqb}
+use borrow.Author.Tests.{ltb-true, leb-true, eqb-true, eqb-false}
 use Rattle.answer.specs.Answer.{pick}
 use Rattle.answer.proofs.Laws.{split, and-left, and-right}
 use Rattle.text.specs.Same.{same}
@@ -78,3 +78,28 @@ known k (n ∷ ns) name g h =
     (λ e.
     let r = known k ns name (and-right (inKind k n) (every (inKind k) ns) g) (rw (row-of k n l, e) at h) in
     record { place = r .place; below = r .below; spelt = r .spelt; found = r .found })
+
+-- two names of a kind are the same just if their numbers are
+name-is : (k : Kind) (m n : ℕ) → m < length (namesOf k) → n < length (namesOf k)
+    → same (getD (namesOf k) m []) (getD (namesOf k) n []) ≡ eqb m n
+name-is k m n l h =
+    split (eqb m n)
+    (λ e. rw (e, eqb-true m n e) (same-self (getD (namesOf k) n [])))
+    (λ e. split (same (getD (namesOf k) m []) (getD (namesOf k) n []))
+    (λ s. absurd
+    (eqb-false m n e
+    (some-is (sym (number-back k m l) ∙ ap (numberOf k) (same-equal (getD (namesOf k) m []) (getD (namesOf k) n []) s) ∙ number-back k n h))))
+    (λ s. rw (s, e)))
+  where
+    some-is : {a b : ℕ} → some a ≡ some b → a ≡ b
+    some-is e = cc
+
+-- so a list of names holds a name just if the numbers hold its number
+pub listed-number : (k : Kind) (n : ℕ) → inKind k n ≡ true → (ns : List ℕ) → every (inKind k) ns ≡ true
+    → listed (rowSpelled (firstRow k + n)) (spelledRows (rows k ns)) ≡ member n ns
+unfolding listed rowSpelled member
+listed-number k n h [] g = refl
+listed-number k n h (m ∷ ns) g =
+    let l = ltb-true n (length (namesOf k)) h in
+    let j = ltb-true m (length (namesOf k)) (and-left (inKind k m) (every (inKind k) ns) g) in
+    rw (listed-number k n h ns (and-right (inKind k m) (every (inKind k) ns) g), row-of k n l, row-of k m j, name-is k m n j l)

@@ -1,0 +1,68 @@
+-- Two ends read each other's KEXINIT and come to one answer. Assumes nothing.
+use mathlib.Core.Path.{_≡_, refl, sym, ap, ap₂, _∙_}
+use mathlib.Core.Bool.{Bool, true, false, _&&_, _||_, and-comm}
+use mathlib.Core.List.{List}
+use Prim.Native.Nat.{ℕ}
+use lib.ListN.{length}
+use Rattle.answer.specs.Answer.{Out}
+use Rattle.wire.specs.Names.{every}
+use Rattle.names.specs.Tables.{allNames, kexNames}
+use Rattle.names.specs.declared.Kind.the-variants.{Kex}
+use Rattle.choice.specs.declared.Side.{Side}
+use Rattle.choice.specs.declared.Side.the-variants.{Client, Server}
+use Rattle.choice.specs.Choice.{listed, firstShared}
+use Rattle.choice.specs.Rows.{rowSpelled, spelledRows}
+use Rattle.preferred.specs.Tables.{Tables, valid}
+use Rattle.preferred.specs.Own.{member, strictName, other, kexChosen}
+use Rattle.negotiation.specs.Written.{kexList, keyList, cipherList, macList, compressionList, kexInit}
+use Rattle.negotiation.specs.Read.{strict, readKex}
+use Rattle.agreement.specs.Both.{Shared, settling, clientStrict, serverStrict, kexOffer, shared, bothStrict, both}
+use Rattle.agreement.proofs.OwnLaws.{inKind, good, lists-good}
+use Rattle.agreement.proofs.WrittenLaws.{chosenAll, reads}
+use Rattle.agreement.proofs.ApartLaws.{apart-server, apart-client, apart-kex, strict-client, strict-server}
+
+-- the names of rows 11 and 12
+strict-names : (rowSpelled 11 ≡ clientStrict) × (rowSpelled 12 ≡ serverStrict)
+unfolding rowSpelled allNames kexNames
+strict-names = (refl, refl)
+
+module _ (tc ts : Tables) (b : Bool) (c : tc .side ≡ Client) (s : ts .side ≡ Server) (cv : valid tc ≡ true) (sv : valid ts ≡ true) where
+  abbrev strictAt : Side → Tables → List (List ℕ) → Bool
+  strictAt side t peer = (member (strictName side) (t .kex) && listed (rowSpelled (strictName (other side))) peer) || b
+
+  client-in : every (inKind Kex) (tc .kex) ≡ true
+  client-in = good Kex (tc .kex) (lists-good tc cv .kex) .inTable
+
+  server-in : every (inKind Kex) (ts .kex) ≡ true
+  server-in = good Kex (ts .kex) (lists-good ts sv .kex) .inTable
+
+  client-choice : chosenAll (tc .side) tc ts ≡ shared tc ts
+  client-choice =
+      ap (λ (x : Side). chosenAll x tc ts) c
+      ∙ rw (← (apart-kex tc client-in), apart-server (kexList tc) (kexList ts))
+
+  server-choice : chosenAll (ts .side) ts tc ≡ shared tc ts
+  server-choice =
+      ap (λ (x : Side). chosenAll x ts tc) s
+      ∙ rw (← (apart-kex ts server-in), apart-client (kexList tc) (kexList ts))
+
+  client-strict : strict tc b (kexList ts) ≡ bothStrict tc ts b
+  unfolding strict
+  client-strict =
+      ap (λ (x : Side). strictAt x tc (kexList ts)) c
+      ∙ rw (strict-names .1, ← (strict-client tc client-in c))
+
+  server-strict : strict ts b (kexList tc) ≡ bothStrict tc ts b
+  unfolding strict
+  server-strict =
+      ap (λ (x : Side). strictAt x ts (kexList tc)) s
+      ∙ rw (strict-names .0, ← (strict-server ts server-in s)) (ap (λ x. x || b) (and-comm (listed serverStrict (kexList ts)) (listed clientStrict (kexList tc))))
+
+  -- each reads the other's, and both come to the one block over what they share
+  pub client-reads : (cookie : List ℕ) → length cookie ≡ 16 → readKex tc b (kexInit ts cookie) ≡ both tc ts b
+  unfolding both
+  client-reads cookie k = reads tc ts b cookie cv sv k ∙ ap₂ settling client-choice client-strict
+
+  pub server-reads : (cookie : List ℕ) → length cookie ≡ 16 → readKex ts b (kexInit tc cookie) ≡ both tc ts b
+  unfolding both
+  server-reads cookie k = reads ts tc b cookie sv cv k ∙ ap₂ settling server-choice server-strict

@@ -1,0 +1,125 @@
+-- A written KEXINIT reads back as the lists as written: reading it is choosing from them. Assumes nothing.
+use mathlib.Core.Path.{_≡_, refl, sym, ap, _∙_}
+use mathlib.Core.Bool.{Bool, true, false}
+use mathlib.Core.List.{List, [], _∷_, _++_, append-assoc}
+use Prim.Native.Nat.{ℕ, suc, _+_, _*_, _≤_, _<_}
+use native.Mathlib.Omega.{arith}
+use lib.Dec.{leb}
+use lib.ListN.{length, length-append, drop}
+use lib.Seq.{drop-at}
+use borrow.Author.Tests.{le-leb}
+use Rattle.answer.specs.Answer.{Out, refused, done, guard, _>>=_}
+use Rattle.put.specs.Written.{word}
+use Rattle.text.specs.Utf8.{utf8, octets}
+use Rattle.wire.specs.Fields.{At, here, string, byte, end}
+use Rattle.wire.specs.Fields.{word as readWord}
+use Rattle.wire.proofs.BackLaws.{string-back, byte-back, word-back, end-back}
+use Rattle.names.specs.declared.Kind.the-variants.{Kex, Key, Certificate, Cipher, Mac, Compression}
+use Rattle.choice.specs.declared.Side.{Side}
+use Rattle.choice.specs.Choice.{chosen}
+use Rattle.choice.specs.Rows.{spelledRows}
+use Rattle.preferred.specs.Tables.{Tables, valid}
+use Rattle.preferred.specs.Own.{rows, kexWritten, kexChosen, keyRows}
+use Rattle.negotiation.specs.Written.{kexList, keyList, cipherList, macList, compressionList, listField, kexInit}
+use Rattle.negotiation.specs.Read.{offer, strict, readKex}
+use Rattle.agreement.specs.Both.{Shared, settling}
+use Rattle.agreement.proofs.OwnLaws.{good, Valid, lists-good}
+use Rattle.agreement.proofs.FewLaws.{Few, few-rows, few-kex, few-key, field-few, offer-back, string-few}
+
+-- a field that is read, and a step that two blocks share
+read : {A B : Type 0} {m : Out A} {a : A} (f : A → Out B) {y : Out B} → m ≡ done a → f a ≡ y → (m >>= f) ≡ y
+unfolding _>>=_
+read f e h = rw e h
+
+on : {A B : Type 0} (m : Out A) {f g : A → Out B} → ((a : A) → f a ≡ g a) → (m >>= f) ≡ (m >>= g)
+unfolding _>>=_
+on (refused r) h = refl
+on (done a) h = h a
+
+-- the fields of a KEXINIT, which start at 17
+abbrev fields : Tables → List ℕ
+fields t =
+    listField (kexList t)
+    ++ (listField (keyList t)
+    ++ (listField (cipherList t)
+    ++ (listField (cipherList t)
+    ++ (listField (macList t)
+    ++ (listField (macList t)
+    ++ (listField (compressionList t)
+    ++ (listField (compressionList t)
+    ++ (word 0
+    ++ (word 0
+    ++ (0 ∷ word 0))))))))))
+
+module _ (t : Tables) (v : Valid t) (cookie : List ℕ) (k : length cookie ≡ 16) where
+  kexes : Few (kexWritten t)
+  kexes = few-kex t (good Kex (t .kex) (v .kex))
+
+  keys : Few (keyRows t)
+  keys = few-key (t .side) t (good Certificate (t .certificate) (v .certificate)) (good Key (t .key) (v .key))
+
+  ciphers : Few (rows Cipher (t .cipher))
+  ciphers = few-rows Cipher (t .cipher) (good Cipher (t .cipher) (v .cipher))
+
+  macs : Few (rows Mac (t .mac))
+  macs = few-rows Mac (t .mac) (good Mac (t .mac) (v .mac))
+
+  compressions : Few (rows Compression (t .compression))
+  compressions = few-rows Compression (t .compression) (good Compression (t .compression) (v .compression))
+
+  -- the whole of it is no longer than a reader takes
+  whole : (17 ≤ length (kexInit t cookie)) × (length (kexInit t cookie) ≤ 262176)
+  unfolding kexInit word
+  whole =
+      simp length-append
+      (omega
+      (arith, field-few _ kexes, field-few _ keys, field-few _ ciphers, field-few _ macs, field-few _ compressions))
+
+  start : here (kexInit t cookie) 17 ≡ record { at = 17; left = fields t }
+  unfolding kexInit
+  start = rw (drop-at cookie (fields t) 16 k)
+
+none-utf8 : utf8 [] ≡ true
+unfolding utf8 octets
+none-utf8 = refl
+
+-- reading is choosing from the lists as written
+abbrev pub chosenAll : Side → Tables → Tables → Shared
+chosenAll side t u =
+    record {
+      kex = chosen side (spelledRows (kexChosen t)) (kexList u);
+      key = chosen side (keyList t) (keyList u);
+      cipher = chosen side (cipherList t) (cipherList u);
+      mac = chosen side (macList t) (macList u);
+      compression = chosen side (compressionList t) (compressionList u);
+    }
+
+pub reads : (t u : Tables) (b : Bool) (cookie : List ℕ) → valid t ≡ true → valid u ≡ true → length cookie ≡ 16
+    → readKex t b (kexInit u cookie) ≡ settling (chosenAll (t .side) t u) (strict t b (kexList u))
+unfolding readKex settling word
+reads t u b cookie tv uv k =
+    let v = lists-good u uv in
+    let w = whole u v cookie k in
+    read _ (ap (guard 9) tv)
+    (read _ (ap (guard 1) (le-leb (length (kexInit u cookie)) 262176 (w .1)))
+    (read _ (ap (guard 6) (le-leb 17 (length (kexInit u cookie)) (w .0)))
+    (read _ (ap offer (start u v cookie k) ∙ offer-back _ (kexes u v cookie k) _ _)
+    (on _ (λ kex.
+    read _ (offer-back _ (keys u v cookie k) _ _)
+    (on _ (λ key.
+    read _ (offer-back _ (ciphers u v cookie k) _ _)
+    (on _ (λ cipher.
+    read _ (string-few _ (ciphers u v cookie k) _ _)
+    (read _ (offer-back _ (macs u v cookie k) _ _)
+    (on _ (λ clientMac.
+    read _ (offer-back _ (macs u v cookie k) _ _)
+    (on _ (λ serverMac.
+    read _ (offer-back _ (compressions u v cookie k) _ _)
+    (on _ (λ clientCompression.
+    read _ (offer-back _ (compressions u v cookie k) _ _)
+    (on _ (λ serverCompression.
+    read _ (string-back _ [] _ (omega arith) none-utf8)
+    (read _ (string-back _ [] _ (omega arith) none-utf8)
+    (read _ (byte-back _ 0 _)
+    (read _ (word-back _ 0 [] (omega arith))
+    (read _ (end-back _) refl))))))))))))))))))))))
