@@ -132,7 +132,7 @@ few-append j k ms ns g h =
       most = simp (length-append, rows-length) (omega arith);
     }
 
-good-kept : (k : Kind) (f : ℕ → Bool) (ns : List ℕ) → Good k ns → Good k (kept f ns)
+pub good-kept : (k : Kind) (f : ℕ → Bool) (ns : List ℕ) → Good k ns → Good k (kept f ns)
 good-kept k f ns g =
     record { most = omega (arith, kept-length f ns); inTable = kept-every f (inKind k) ns (g .inTable) }
 
@@ -146,7 +146,7 @@ unfolding namesOf keyNames certificateNames
 as-certificate n h = h
 
 module _ (key keyIds ks ids : List ℕ) (g : Good Key key) where
-  good-certificates : Good Certificate (certificates [] key keyIds ks ids)
+  pub good-certificates : Good Certificate (certificates [] key keyIds ks ids)
   good-certificates =
       record {
         most = omega (arith, certificates-few key keyIds ks ids);

@@ -6,4 +6,7 @@ pub mod FewLaws
 pub mod WrittenLaws
 pub mod ApartLaws
 pub mod AgreeLaws
+pub mod NumberLaws
+pub mod EndedLaws
 pub mod ProtectedLaws
+pub mod DemandLaws

@@ -60,24 +60,26 @@ lists-good t h =
       compression = search (and-left, and-right) depth 14;
     }
 
--- a name of an own list: its number, which is among the preferred ones
-pub record Known (k : Kind) (ns : List ℕ) (name : List ℕ) : Type 0 where
+-- a name of an own list has a number
+pub record Known (k : Kind) (name : List ℕ) : Type 0 where
   pub place : ℕ
   pub below : place < length (namesOf k)
   pub spelt : getD (namesOf k) place [] ≡ name
-  pub found : number k name ≡ place
+  pub found : numberOf k name ≡ some place
 
-pub known : (k : Kind) (ns : List ℕ) (name : List ℕ) → every (inKind k) ns ≡ true → listed name (spelledRows (rows k ns)) ≡ true → Known k ns name
-unfolding listed rowSpelled number
+pub known : (k : Kind) (ns : List ℕ) (name : List ℕ) → every (inKind k) ns ≡ true → listed name (spelledRows (rows k ns)) ≡ true → Known k name
+unfolding listed rowSpelled
 known k [] name g h = never (cc)
 known k (n ∷ ns) name g h =
     let l : n < length (namesOf k) = ltb-true n (length (namesOf k)) (and-left (inKind k n) (every (inKind k) ns) g) in
     split (same (getD (namesOf k) n []) name)
     (λ e. let s = same-equal (getD (namesOf k) n []) name e in
-    record { place = n; below = l; spelt = s; found = rw (← s, number-back k n l) })
-    (λ e.
-    let r = known k ns name (and-right (inKind k n) (every (inKind k) ns) g) (rw (row-of k n l, e) at h) in
-    record { place = r .place; below = r .below; spelt = r .spelt; found = r .found })
+    record { place = n; below = l; spelt = s; found = rw (← s) (number-back k n l) })
+    (λ e. known k ns name (and-right (inKind k n) (every (inKind k) ns) g) (rw (row-of k n l, e) at h))
+
+pub known-number : (k : Kind) (name : List ℕ) (r : Known k name) → number k name ≡ r .place
+unfolding number
+known-number k name r = rw (r .found)
 
 -- two names of a kind are the same just if their numbers are
 name-is : (k : Kind) (m n : ℕ) → m < length (namesOf k) → n < length (namesOf k)

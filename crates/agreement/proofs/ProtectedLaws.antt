@@ -23,7 +23,7 @@ use Rattle.negotiation.specs.Read.{number, needsMac, hasIntegrity, noMac, settl
 use Rattle.agreement.specs.Protected.{protecting, Unprotected, Protected}
 use Rattle.agreement.proofs.WalkLaws.{Post, go-on, at-end, of-accepted, passed}
 use Rattle.agreement.proofs.SharedLaws.{chosen-own, settle-some}
-use Rattle.agreement.proofs.OwnLaws.{Good, good, Valid, lists-good, known}
+use Rattle.agreement.proofs.OwnLaws.{Good, good, Valid, lists-good, known, known-number}
 
 -- every cipher but `clear` and `none` needs a MAC or has built-in integrity
 abbrev sound : List ℕ → Bool
@@ -78,7 +78,7 @@ module _ (t : Tables) (safe : protecting t ≡ true) where
     guarded mac peer s i z =
         let n = mac-needed cipher mac (chosen (t .side) (macList t) peer) s (needs i) in
         let m = known Mac (t .mac) mac (good Mac (t .mac) (v .mac) .inTable) (chosen-own (t .side) (macList t) peer mac (n .0)) in
-        let e : getD (namesOf Mac) 0 [] ≡ mac = rw (sym (m .found) ∙ z) at (m .spelt) in
+        let e : getD (namesOf Mac) 0 [] ≡ mac = rw (sym (known-number Mac mac m) ∙ z) at (m .spelt) in
         same-differ mac noMac (n .1) (sym e ∙ first-mac)
 
   walk : (b : Bool) (p : List ℕ) → Post Protected (readKex t b p)

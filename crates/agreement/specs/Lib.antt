@@ -1,2 +1,4 @@
 pub mod Protected
 pub mod Both
+pub mod Ended
+pub mod Demand
