@@ -1,22 +1,21 @@
 -- Two ends read each other's KEXINIT and come to one answer. Assumes nothing.
-use mathlib.Core.Path.{_≡_, refl, sym, ap, ap₂, _∙_}
-use mathlib.Core.Bool.{Bool, true, false, _&&_, _||_, and-comm}
+use mathlib.Core.Path.{_≡_, refl, ap, ap₂, _∙_}
+use mathlib.Core.Bool.{Bool, true, _&&_, _||_, and-comm}
 use mathlib.Core.List.{List}
 use Prim.Native.Nat.{ℕ}
 use lib.ListN.{length}
-use Rattle.answer.specs.Answer.{Out}
 use Rattle.wire.specs.Names.{every}
 use Rattle.names.specs.Tables.{allNames, kexNames}
 use Rattle.names.specs.declared.Kind.the-variants.{Kex}
 use Rattle.choice.specs.declared.Side.{Side}
 use Rattle.choice.specs.declared.Side.the-variants.{Client, Server}
-use Rattle.choice.specs.Choice.{listed, firstShared}
-use Rattle.choice.specs.Rows.{rowSpelled, spelledRows}
+use Rattle.choice.specs.Choice.{listed}
+use Rattle.choice.specs.Rows.{rowSpelled}
 use Rattle.preferred.specs.Tables.{Tables, valid}
-use Rattle.preferred.specs.Own.{member, strictName, other, kexChosen}
-use Rattle.negotiation.specs.Written.{kexList, keyList, cipherList, macList, compressionList, kexInit}
+use Rattle.preferred.specs.Own.{member, strictName, other}
+use Rattle.negotiation.specs.Written.{kexList, kexInit}
 use Rattle.negotiation.specs.Read.{strict, readKex}
-use Rattle.agreement.specs.Both.{Shared, settling, clientStrict, serverStrict, kexOffer, shared, bothStrict, both}
+use Rattle.agreement.specs.Both.{settling, clientStrict, serverStrict, shared, bothStrict, both}
 use Rattle.agreement.proofs.OwnLaws.{inKind, good, lists-good}
 use Rattle.agreement.proofs.WrittenLaws.{chosenAll, reads}
 use Rattle.agreement.proofs.ApartLaws.{apart-server, apart-client, apart-kex, strict-client, strict-server}

@@ -2,15 +2,12 @@
 -- Assumes nothing.
 use mathlib.Core.Path.{_≡_, refl, sym, ap, _∙_}
 use mathlib.Core.Bool.{Bool, true, false, not, _&&_, _||_, and-false, or-assoc}
-use mathlib.Core.List.{List, [], _∷_, _++_, map}
+use mathlib.Core.List.{List, [], _∷_, _++_}
 use Prim.Native.Nat.{ℕ, _+_}
-use borrow.Author.Tests.{not-true, not-false}
-use lib.Dec.{eqb, ltb}
-use lib.ListN.{length, getD}
-use Rattle.answer.specs.Answer.{pick}
+use lib.Dec.{eqb}
 use Rattle.answer.proofs.Laws.{split, and-left, and-right}
 use Rattle.text.specs.Same.{same}
-use Rattle.text.proofs.SameLaws.{same-equal, never}
+use Rattle.text.proofs.SameLaws.{same-equal}
 use Rattle.wire.specs.Names.{every}
 use Rattle.names.specs.Tables.{namesOf, allNames, kexNames}
 use Rattle.names.specs.declared.Kind.the-variants.{Kex}
@@ -19,9 +16,8 @@ use Rattle.choice.specs.declared.Side.the-variants.{Client, Server}
 use Rattle.choice.specs.Choice.{listed, firstShared}
 use Rattle.choice.specs.Rows.{rowSpelled, spelledRows}
 use Rattle.preferred.specs.Tables.{Tables}
-use Rattle.preferred.specs.Own.{member, kept, rows, extensions, other, strictName, kexWritten, kexChosen}
+use Rattle.preferred.specs.Own.{member, kept, rows, extensions, other, kexWritten, kexChosen}
 use Rattle.negotiation.specs.Written.{kexList}
-use Rattle.negotiation.specs.Read.{strict}
 use Rattle.agreement.specs.Both.{clientStrict, serverStrict, extensionNames, apart, kexOffer}
 use Rattle.agreement.proofs.OwnLaws.{inKind, listed-number}
 use Rattle.agreement.proofs.KeptLaws.{kept-every, kept-member}

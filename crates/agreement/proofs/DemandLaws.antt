@@ -1,22 +1,19 @@
 -- Demand 3. Assumes nothing.
-use mathlib.Core.Path.{_≡_, refl, sym, ap, _∙_}
-use mathlib.Core.Bool.{Bool, true, false, _&&_, _||_}
+use mathlib.Core.Path.{_≡_, refl}
+use mathlib.Core.Bool.{Bool, true}
 use mathlib.Core.List.{List}
 use mathlib.Core.Logic.{_↔_}
 use Prim.Native.Nat.{ℕ}
-use lib.Dec.{eqb}
 use lib.ListN.{length}
 use borrow.Author.Tests.{eq-eqb}
-use Rattle.answer.specs.declared.Refusal.{Refusal}
-use Rattle.answer.specs.Answer.{Out, refused, done, guard, _>>=_}
+use Rattle.answer.specs.Answer.{Out, done, _>>=_}
 use Rattle.answer.proofs.Laws.{not-both}
 use Rattle.preferred.specs.Tables.{Tables, valid}
 use Rattle.negotiation.specs.declared.Names.{Names}
-use Rattle.negotiation.specs.Written.{keyList, cipherList, macList, compressionList, kexInit, writeKex}
+use Rattle.negotiation.specs.Written.{keyList, cipherList, compressionList, kexInit, writeKex}
 use Rattle.negotiation.specs.Read.{readKex}
-use Rattle.agreement.specs.Protected.{protecting}
 use Rattle.agreement.specs.Both.{kexOffer, both}
-use Rattle.agreement.specs.Ended.{Accepted, Lacks, FirstLacking, Ended, bothAccept, bothRefuse, Refuses}
+use Rattle.agreement.specs.Ended.{Accepted, Lacks, Ended, bothAccept, bothRefuse, Refuses}
 use Rattle.agreement.specs.Demand.{Ends, Agreed, Demand3}
 use Rattle.agreement.proofs.OwnLaws.{lists-good}
 use Rattle.agreement.proofs.SharedLaws.{not-both-shared}

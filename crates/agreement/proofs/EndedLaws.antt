@@ -1,25 +1,24 @@
 -- What the one block over shared names comes to, category by category. Assumes nothing.
 use mathlib.Core.Path.{_≡_, refl, sym, ap, _∙_}
-use mathlib.Core.Bool.{Bool, true, false, not, _&&_, _||_, and-false, true≢false}
+use mathlib.Core.Bool.{Bool, true, false, _||_, and-false, true≢false}
 use mathlib.Core.List.{List}
 use mathlib.Core.Logic.{_⊎_, inl, inr}
-use mathlib.Core.Option.{Option, some, none}
+use mathlib.Core.Option.{Option, some}
 use Prim.Native.Nat.{ℕ, _<_, _≤_}
 use native.Mathlib.Omega.{arith}
 use borrow.Author.Tests.{not-true}
 use Rattle.answer.specs.declared.Refusal.{Refusal}
-use Rattle.answer.specs.Answer.{Out, refused, done, refuse, pick, _>>=_}
-use Rattle.answer.proofs.Laws.{split, and-left, and-right, not-both}
+use Rattle.answer.specs.Answer.{Out, refused, done, refuse, _>>=_}
+use Rattle.answer.proofs.Laws.{split, and-left, and-right}
 use Rattle.text.specs.Same.{same}
-use Rattle.text.specs.Literal.{bytes}
-use Rattle.text.proofs.SameLaws.{same-equal, never}
-use Rattle.choice.specs.Choice.{listed, firstShared}
+use Rattle.text.proofs.SameLaws.{same-equal}
+use Rattle.choice.specs.Choice.{listed}
 use Rattle.preferred.specs.Tables.{Tables}
 use Rattle.negotiation.specs.declared.Names.{Names}
 use Rattle.negotiation.specs.Written.{keyList, cipherList, macList, compressionList}
-use Rattle.negotiation.specs.Read.{needsMac, noMac, settle, settleMac, settled}
+use Rattle.negotiation.specs.Read.{needsMac, noMac, settleMac}
 use Rattle.agreement.specs.Protected.{protecting}
-use Rattle.agreement.specs.Both.{Shared, settling, kexOffer, shared, bothStrict, both}
+use Rattle.agreement.specs.Both.{settling, kexOffer, shared, bothStrict, both}
 use Rattle.agreement.specs.Ended.{First, NoneShared, MacOf, Accepted, Lacks, FirstLacking}
 use Rattle.agreement.proofs.OwnLaws.{Valid}
 use Rattle.agreement.proofs.NumberLaws.{made-of}

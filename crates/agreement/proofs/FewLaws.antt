@@ -1,24 +1,24 @@
 -- What a side writes is no longer than a reader takes: no list is of more rows than two preference lists, and no name of
 -- the table has more than 63 bytes. Assumes nothing.
-use mathlib.Core.Path.{_≡_, refl, sym, ap, _∙_}
-use mathlib.Core.Bool.{Bool, true, false, not, _&&_}
-use mathlib.Core.List.{List, [], _∷_, _++_, map, append-assoc}
-use Prim.Native.Nat.{ℕ, suc, _+_, _*_, _≤_, _<_}
+use mathlib.Core.Path.{_≡_, refl}
+use mathlib.Core.Bool.{Bool, true, not}
+use mathlib.Core.List.{List, [], _∷_, _++_, append-assoc}
+use Prim.Native.Nat.{ℕ, _+_, _*_, _≤_, _<_}
 use native.Mathlib.Omega.{arith}
-use lib.Dec.{ltb, leb, eqb}
-use lib.ListN.{length, length-append, length-map, getD}
+use lib.Dec.{ltb, leb}
+use lib.ListN.{length, length-append, length-map}
 use borrow.Author.Tests.{ltb-true, leb-true, lt-ltb}
 use Rattle.answer.proofs.Laws.{and-left, and-right}
 use Rattle.text.specs.Same.{ascii}
 use Rattle.text.proofs.Utf8Laws.{ascii-utf8}
 use Rattle.put.specs.Written.{word}
 use Rattle.answer.specs.Answer.{done, _>>=_}
-use Rattle.wire.specs.Fields.{At, string}
-use Rattle.wire.specs.Names.{join, nameable, every, cut}
+use Rattle.wire.specs.Fields.{string}
+use Rattle.wire.specs.Names.{join, nameable, every}
 use Rattle.wire.proofs.BackLaws.{every-so, list-back, names-back, string-back, join-ascii}
 use Rattle.names.specs.Tables.{namesOf, allNames, kexNames, keyNames, certificateNames, cipherNames, macNames, compressionNames, firstRow}
 use Rattle.names.specs.declared.Kind.{Kind}
-use Rattle.names.specs.declared.Kind.the-variants.{Kex, Key, Certificate, Cipher, Mac, Compression}
+use Rattle.names.specs.declared.Kind.the-variants.{Kex, Key, Certificate}
 use Rattle.names.proofs.PlaceLaws.{each, each-at}
 use Rattle.names.proofs.TableLaws.{kind-rows, row-count}
 use Rattle.choice.specs.declared.Side.{Side}
@@ -28,7 +28,7 @@ use Rattle.preferred.specs.Tables.{Tables, mostEntries}
 use Rattle.preferred.specs.Own.{member, kept, rows, extensions, other, kexWritten, keyOf, kindOf, certificates}
 use Rattle.negotiation.specs.Written.{listField}
 use Rattle.negotiation.specs.Read.{offer}
-use Rattle.agreement.proofs.OwnLaws.{inKind, Good, good, Valid}
+use Rattle.agreement.proofs.OwnLaws.{inKind, Good}
 use Rattle.agreement.proofs.KeptLaws.{every-append, kept-length, kept-every, certificates-every, certificates-few}
 
 -- a name of the table may stand in a list, and is short

@@ -10,3 +10,4 @@ pub mod NumberLaws
 pub mod EndedLaws
 pub mod ProtectedLaws
 pub mod DemandLaws
+pub mod PairLaws

@@ -1,15 +1,14 @@
 -- The names that are chosen have numbers, and the record holds them. Assumes nothing.
-use mathlib.Core.Path.{_≡_, refl, sym, ap, _∙_}
-use mathlib.Core.Bool.{Bool, true, false, not, _&&_, _||_, or-true}
-use mathlib.Core.List.{List, [], _∷_, _++_, map, map-append}
+use mathlib.Core.Path.{_≡_, refl}
+use mathlib.Core.Bool.{Bool, true, false, not, or-true}
+use mathlib.Core.List.{List, [], _∷_, _++_, map-append}
 use mathlib.Core.Logic.{_⊎_, inl, inr, ⊎-elim}
 use mathlib.Core.Option.{Option, some, none}
 use Prim.Native.Nat.{ℕ}
 use Rattle.answer.specs.Answer.{pick}
-use Rattle.answer.proofs.Laws.{split, and-left, and-right}
+use Rattle.answer.proofs.Laws.{split}
 use Rattle.text.specs.Same.{same}
 use Rattle.text.proofs.SameLaws.{never}
-use Rattle.wire.specs.Names.{every}
 use Rattle.names.specs.Tables.{namesOf, macNames}
 use Rattle.names.specs.Lookup.{numberOf, placeFrom}
 use Rattle.names.specs.declared.Kind.{Kind}
@@ -17,7 +16,7 @@ use Rattle.names.specs.declared.Kind.the-variants.{Kex, Key, Certificate, Ciphe
 use Rattle.choice.specs.declared.Side.{Side}
 use Rattle.choice.specs.declared.Side.the-variants.{Client, Server}
 use Rattle.choice.specs.Choice.{listed}
-use Rattle.choice.specs.Rows.{rowSpelled, spelledRows}
+use Rattle.choice.specs.Rows.{spelledRows}
 use Rattle.preferred.specs.Tables.{Tables}
 use Rattle.preferred.specs.Own.{member, kept, rows, extensions, kexChosen, keyOf, certificates, kindOf}
 use Rattle.negotiation.specs.Written.{keyList, cipherList, macList, compressionList}

@@ -1,14 +1,12 @@
 -- The own lists of valid tables, in names. Assumes nothing.
 use mathlib.Core.Path.{_≡_, refl, sym, ap, _∙_}
-use mathlib.Core.Bool.{Bool, true, false, _&&_, _||_, or-true}
-use mathlib.Core.List.{List, [], _∷_, _++_, map}
-use mathlib.Core.Option.{Option, some, none}
+use mathlib.Core.Bool.{Bool, true}
+use mathlib.Core.List.{List, [], _∷_}
+use mathlib.Core.Option.{some}
 use Prim.Native.Nat.{ℕ, _+_, _<_, _≤_}
-use native.Mathlib.Omega.{arith}
 use lib.Dec.{ltb, leb, eqb}
 use lib.ListN.{length, getD}
 use borrow.Author.Tests.{ltb-true, leb-true, eqb-true, eqb-false}
-use Rattle.answer.specs.Answer.{pick}
 use Rattle.answer.proofs.Laws.{split, and-left, and-right}
 use Rattle.text.specs.Same.{same}
 use Rattle.text.proofs.SameLaws.{same-self, same-equal, never}
@@ -20,7 +18,7 @@ use Rattle.names.specs.declared.Kind.the-variants.{Kex, Key, Certificate, Ciphe
 use Rattle.names.proofs.TableLaws.{row-of, number-back}
 use Rattle.choice.specs.Choice.{listed}
 use Rattle.choice.specs.Rows.{rowSpelled, spelledRows}
-use Rattle.preferred.specs.Tables.{Tables, valid, goodList, goodRows, mostEntries}
+use Rattle.preferred.specs.Tables.{Tables, valid, goodList, mostEntries}
 use Rattle.preferred.specs.Own.{member, rows}
 use Rattle.negotiation.specs.Read.{number}
 

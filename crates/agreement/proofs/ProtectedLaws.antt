@@ -1,16 +1,16 @@
 -- A side with protecting lists accepts nothing unprotected, whatever bytes it reads. Assumes nothing.
 use mathlib.Core.Path.{_≡_, refl, sym, ap, _∙_}
-use mathlib.Core.Bool.{Bool, true, false, not, _&&_, _||_, or-false}
-use mathlib.Core.List.{List, [], _∷_}
+use mathlib.Core.Bool.{Bool, true, false, _||_, or-false}
+use mathlib.Core.List.{List, []}
 use mathlib.Core.Option.{Option, some, none}
 use Prim.Native.Nat.{ℕ}
-use lib.ListN.{getD, length}
+use lib.ListN.{getD}
 use borrow.Author.Tests.{not-true}
-use Rattle.answer.specs.Answer.{Out, done, refuse, pick, _>>=_}
+use Rattle.answer.specs.Answer.{done}
 use Rattle.answer.proofs.Laws.{split, and-left, and-right, un-done}
 use Rattle.text.specs.Same.{same}
 use Rattle.text.specs.Literal.{bytes}
-use Rattle.text.proofs.SameLaws.{same-self, same-equal, same-differ, never}
+use Rattle.text.proofs.SameLaws.{same-equal, same-differ, never}
 use Rattle.names.specs.Tables.{cipherNames, macNames, namesOf, needMac, builtIn}
 use Rattle.names.specs.Lookup.{numberOf, placeFrom}
 use Rattle.names.specs.declared.Kind.the-variants.{Cipher, Mac}
@@ -19,11 +19,11 @@ use Rattle.choice.specs.Choice.{listed, chosen}
 use Rattle.preferred.specs.Tables.{Tables, valid}
 use Rattle.negotiation.specs.declared.Names.{Names}
 use Rattle.negotiation.specs.Written.{cipherList, macList}
-use Rattle.negotiation.specs.Read.{number, needsMac, hasIntegrity, noMac, settle, settleMac, settled, readKex}
-use Rattle.agreement.specs.Protected.{protecting, Unprotected, Protected}
+use Rattle.negotiation.specs.Read.{number, needsMac, hasIntegrity, noMac, settleMac, settled, readKex}
+use Rattle.agreement.specs.Protected.{protecting, Protected}
 use Rattle.agreement.proofs.WalkLaws.{Post, go-on, at-end, of-accepted, passed}
 use Rattle.agreement.proofs.SharedLaws.{chosen-own, settle-some}
-use Rattle.agreement.proofs.OwnLaws.{Good, good, Valid, lists-good, known, known-number}
+use Rattle.agreement.proofs.OwnLaws.{good, Valid, lists-good, known, known-number}
 
 -- every cipher but `clear` and `none` needs a MAC or has built-in integrity
 abbrev sound : List ℕ → Bool

@@ -1,12 +1,11 @@
 -- The choice rule in the demand's words: `firstShared` is the client's first name that the server lists.
 -- Assumes nothing.
 use mathlib.Core.Path.{_≡_, refl, sym, ap, _∙_}
-use mathlib.Core.Bool.{Bool, true, false, _||_, or-true, true≢false}
+use mathlib.Core.Bool.{true, false, or-true, true≢false}
 use mathlib.Core.List.{List, [], _∷_, _++_}
 use mathlib.Core.Option.{Option, some, none}
 use Prim.Native.Nat.{ℕ}
-use native.Mathlib.Omega.{arith}
-use Rattle.answer.specs.Answer.{Out, done, pick}
+use Rattle.answer.specs.Answer.{done}
 use Rattle.answer.proofs.Laws.{split}
 use Rattle.text.specs.Same.{same}
 use Rattle.text.proofs.SameLaws.{same-self, same-equal, never}

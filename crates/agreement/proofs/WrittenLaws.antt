@@ -1,18 +1,16 @@
 -- A written KEXINIT reads back as the lists as written: reading it is choosing from them. Assumes nothing.
-use mathlib.Core.Path.{_≡_, refl, sym, ap, _∙_}
-use mathlib.Core.Bool.{Bool, true, false}
-use mathlib.Core.List.{List, [], _∷_, _++_, append-assoc}
-use Prim.Native.Nat.{ℕ, suc, _+_, _*_, _≤_, _<_}
+use mathlib.Core.Path.{_≡_, refl, ap, _∙_}
+use mathlib.Core.Bool.{Bool, true}
+use mathlib.Core.List.{List, [], _∷_, _++_}
+use Prim.Native.Nat.{ℕ, _≤_}
 use native.Mathlib.Omega.{arith}
-use lib.Dec.{leb}
-use lib.ListN.{length, length-append, drop}
+use lib.ListN.{length, length-append}
 use lib.Seq.{drop-at}
 use borrow.Author.Tests.{le-leb}
 use Rattle.answer.specs.Answer.{Out, refused, done, guard, _>>=_}
 use Rattle.put.specs.Written.{word}
 use Rattle.text.specs.Utf8.{utf8, octets}
-use Rattle.wire.specs.Fields.{At, here, string, byte, end}
-use Rattle.wire.specs.Fields.{word as readWord}
+use Rattle.wire.specs.Fields.{here}
 use Rattle.wire.proofs.BackLaws.{string-back, byte-back, word-back, end-back}
 use Rattle.names.specs.declared.Kind.the-variants.{Kex, Key, Certificate, Cipher, Mac, Compression}
 use Rattle.choice.specs.declared.Side.{Side}
@@ -21,7 +19,8 @@ use Rattle.choice.specs.Rows.{spelledRows}
 use Rattle.preferred.specs.Tables.{Tables, valid}
 use Rattle.preferred.specs.Own.{rows, kexWritten, kexChosen, keyRows}
 use Rattle.negotiation.specs.Written.{kexList, keyList, cipherList, macList, compressionList, listField, kexInit}
-use Rattle.negotiation.specs.Read.{offer, strict, readKex}
+use Rattle.negotiation.specs.Read.{offer, mostPayload, strict, readKex}
+use Rattle.agreement.specs.Offers.{offers, asWritten}
 use Rattle.agreement.specs.Both.{Shared, settling}
 use Rattle.agreement.proofs.OwnLaws.{good, Valid, lists-good}
 use Rattle.agreement.proofs.FewLaws.{Few, few-rows, few-kex, few-key, field-few, offer-back, string-few}
@@ -51,7 +50,7 @@ fields t =
     ++ (word 0
     ++ (0 ∷ word 0))))))))))
 
-module _ (t : Tables) (v : Valid t) (cookie : List ℕ) (k : length cookie ≡ 16) where
+module _ (t : Tables) (v : Valid t) where
   kexes : Few (kexWritten t)
   kexes = few-kex t (good Kex (t .kex) (v .kex))
 
@@ -68,20 +67,39 @@ module _ (t : Tables) (v : Valid t) (cookie : List ℕ) (k : length cookie ≡ 1
   compressions = few-rows Compression (t .compression) (good Compression (t .compression) (v .compression))
 
   -- the whole of it is no longer than a reader takes
-  whole : (17 ≤ length (kexInit t cookie)) × (length (kexInit t cookie) ≤ 262176)
+  pub whole : (cookie : List ℕ) → length cookie ≡ 16 → (17 ≤ length (kexInit t cookie)) × (length (kexInit t cookie) ≤ mostPayload)
   unfolding kexInit word
-  whole =
+  whole cookie k =
       simp length-append
       (omega
       (arith, field-few _ kexes, field-few _ keys, field-few _ ciphers, field-few _ macs, field-few _ compressions))
 
-  start : here (kexInit t cookie) 17 ≡ record { at = 17; left = fields t }
-  unfolding kexInit
-  start = rw (drop-at cookie (fields t) 16 k)
+start : (t : Tables) (cookie : List ℕ) → length cookie ≡ 16 → here (kexInit t cookie) 17 ≡ record { at = 17; left = fields t }
+unfolding kexInit
+start t cookie k = rw (drop-at cookie (fields t) 16 k)
 
 none-utf8 : utf8 [] ≡ true
 unfolding utf8 octets
 none-utf8 = refl
+
+-- the lists come back as they were written
+pub written-back : (t : Tables) (cookie : List ℕ) → valid t ≡ true → length cookie ≡ 16 → offers (kexInit t cookie) ≡ done (asWritten t)
+unfolding offers word
+written-back t cookie tv k =
+    let v = lists-good t tv in
+    read _ (ap offer (start t cookie k) ∙ offer-back _ (kexes t v) _ _)
+    (read _ (offer-back _ (keys t v) _ _)
+    (read _ (offer-back _ (ciphers t v) _ _)
+    (read _ (offer-back _ (ciphers t v) _ _)
+    (read _ (offer-back _ (macs t v) _ _)
+    (read _ (offer-back _ (macs t v) _ _)
+    (read _ (offer-back _ (compressions t v) _ _)
+    (read _ (offer-back _ (compressions t v) _ _)
+    (read _ (string-back _ [] _ (omega arith) none-utf8)
+    (read _ (string-back _ [] _ (omega arith) none-utf8)
+    (read _ (byte-back _ 0 _)
+    (read _ (word-back _ 0 [] (omega arith))
+    (read _ (end-back _) refl))))))))))))
 
 -- reading is choosing from the lists as written
 abbrev pub chosenAll : Side → Tables → Tables → Shared
@@ -101,22 +119,22 @@ reads t u b cookie tv uv k =
     let v = lists-good u uv in
     let w = whole u v cookie k in
     read _ (ap (guard 9) tv)
-    (read _ (ap (guard 1) (le-leb (length (kexInit u cookie)) 262176 (w .1)))
+    (read _ (ap (guard 1) (le-leb (length (kexInit u cookie)) mostPayload (w .1)))
     (read _ (ap (guard 6) (le-leb 17 (length (kexInit u cookie)) (w .0)))
-    (read _ (ap offer (start u v cookie k) ∙ offer-back _ (kexes u v cookie k) _ _)
+    (read _ (ap offer (start u cookie k) ∙ offer-back _ (kexes u v) _ _)
     (on _ (λ kex.
-    read _ (offer-back _ (keys u v cookie k) _ _)
+    read _ (offer-back _ (keys u v) _ _)
     (on _ (λ key.
-    read _ (offer-back _ (ciphers u v cookie k) _ _)
+    read _ (offer-back _ (ciphers u v) _ _)
     (on _ (λ cipher.
-    read _ (string-few _ (ciphers u v cookie k) _ _)
-    (read _ (offer-back _ (macs u v cookie k) _ _)
+    read _ (string-few _ (ciphers u v) _ _)
+    (read _ (offer-back _ (macs u v) _ _)
     (on _ (λ clientMac.
-    read _ (offer-back _ (macs u v cookie k) _ _)
+    read _ (offer-back _ (macs u v) _ _)
     (on _ (λ serverMac.
-    read _ (offer-back _ (compressions u v cookie k) _ _)
+    read _ (offer-back _ (compressions u v) _ _)
     (on _ (λ clientCompression.
-    read _ (offer-back _ (compressions u v cookie k) _ _)
+    read _ (offer-back _ (compressions u v) _ _)
     (on _ (λ serverCompression.
     read _ (string-back _ [] _ (omega arith) none-utf8)
     (read _ (string-back _ [] _ (omega arith) none-utf8)

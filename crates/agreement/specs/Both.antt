@@ -1,5 +1,5 @@
 -- What a client and a server come to: one block over what they share (document 01, "Choice").
-use mathlib.Core.Bool.{Bool, true, false, _&&_, _||_}
+use mathlib.Core.Bool.{Bool, false, _&&_, _||_}
 use mathlib.Core.List.{List, [], _∷_}
 use mathlib.Core.Option.{Option}
 use Prim.Native.Nat.{ℕ}

@@ -5,7 +5,7 @@ use mathlib.Core.List.{List}
 use mathlib.Core.Logic.{_↔_}
 use Prim.Native.Nat.{ℕ}
 use lib.ListN.{length}
-use Rattle.answer.specs.Answer.{Out, done}
+use Rattle.answer.specs.Answer.{done}
 use Rattle.choice.specs.declared.Side.the-variants.{Client, Server}
 use Rattle.preferred.specs.Tables.{Tables, valid}
 use Rattle.negotiation.specs.declared.Names.{Names}

@@ -1,7 +1,6 @@
 -- Which lists protect a side, and what it then never accepts (demand 3, last sentence).
 use mathlib.Core.Path.{_≡_}
-use mathlib.Core.Bool.{Bool, true, false, not, _&&_}
-use Prim.Native.Nat.{ℕ}
+use mathlib.Core.Bool.{Bool, false, not, _&&_}
 use lib.ListN.{getD}
 use Rattle.text.specs.Literal.{bytes}
 use Rattle.names.specs.Tables.{builtIn}
