@@ -1,5 +1,5 @@
 -- Laws of answers that every layer cites. Assumes nothing.
-use mathlib.Core.Path.{_≡_, refl}
+use mathlib.Core.Path.{_≡_, refl, sym}
 use mathlib.Core.Bool.{Bool, true, false, not, _&&_}
 use Prim.Native.Nat.{ℕ}
 use native.Mathlib.Omega.{arith}
@@ -38,3 +38,9 @@ and-left false b h = h
 pub and-right : (a b : Bool) → (a && b) ≡ true → b ≡ true
 and-right true b h = h
 and-right false b h = cc
+
+-- what was done went through every step
+pub bind-done : {A B : Type 0} (m : Out A) (f : A → Out B) (b : B) → (m >>= f) ≡ done b → (a : A) × (m ≡ done a) × (f a ≡ done b)
+unfolding _>>=_
+bind-done (refused r) f b h = absurd (not-both (sym h))
+bind-done (done a) f b h = (a, refl, h)

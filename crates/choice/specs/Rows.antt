@@ -1,14 +1,16 @@
 -- The same choice as the code makes it: the own list is one of rows of a table, and a row is chosen. Over any test of
 -- whether a row spells a name, so over any table.
-use mathlib.Core.Bool.{Bool, true, false, _||_}
+use mathlib.Core.Bool.{Bool, false, _||_}
 use mathlib.Core.List.{List, [], _∷_, map}
-use mathlib.Core.Option.{Option, some, none}
-use Prim.Native.Nat.{ℕ}
-use lib.ListN.{getD}
+use mathlib.Core.Option.{Option, some, none, orElse}
+use Prim.Native.Nat.{ℕ, _+_}
+use lib.Dec.{ltb}
+use lib.ListN.{length, getD}
 use Rattle.answer.specs.Answer.{pick}
 use Rattle.names.specs.Tables.{allNames}
 use Rattle.names.specs.Spelled.{rowName, nameAt}
 use Rattle.names.specs.Lookup.{is}
+use Rattle.choice.specs.Choice.{first}
 use Rattle.choice.specs.declared.Side.{Side}
 use Rattle.choice.specs.declared.Side.the-variants.{Client, Server}
 use Rattle.choice.specs.declared.Chosen.{Chosen}
@@ -22,20 +24,18 @@ module _ (spells : ℕ → List ℕ → Bool) where
 
   -- the first own row that spells a name
   unfoldable pub rowFor : List ℕ → List ℕ → Option ℕ
-  rowFor [] name = none
-  rowFor (r ∷ own) name = pick (spells r name) (some r) (rowFor own name)
+  rowFor own name = first spells own name
 
   -- the client walks its own list outside
   unfoldable pub ownFirst : List ℕ → List (List ℕ) → Option ℕ
-  ownFirst [] peer = none
-  ownFirst (r ∷ own) peer = pick (offered r peer) (some r) (ownFirst own peer)
+  ownFirst own peer = first offered own peer
 
   -- the server walks the peer's
   unfoldable pub peerFirst : List ℕ → List (List ℕ) → Option ℕ
   peerFirst own [] = none
-  peerFirst own (name ∷ peer) = elim (rowFor own name) [ none ↦ peerFirst own peer | some r ↦ some r ]
+  peerFirst own (name ∷ peer) = orElse (rowFor own name) (peerFirst own peer)
 
-  abbrev pub chosenRow : Side → List ℕ → List (List ℕ) → Option ℕ
+  unfoldable pub chosenRow : Side → List ℕ → List (List ℕ) → Option ℕ
   chosenRow Client own peer = ownFirst own peer
   chosenRow Server own peer = peerFirst own peer
 
@@ -44,6 +44,15 @@ module _ (spells : ℕ → List ℕ → Bool) where
   firstBoth [] peer = false
   firstBoth (r ∷ own) [] = false
   firstBoth (r ∷ own) (name ∷ peer) = spells r name
+
+-- how many of xs stand before the first that passes a test against y
+unfoldable pub placeOf : {X Y : Type 0} → (X → Y → Bool) → List X → Y → ℕ
+placeOf test [] y = 0
+placeOf test (x ∷ xs) y = pick (test x y) 0 (placeOf test xs y + 1)
+
+-- the row at a place of the own list
+unfoldable pub rowAt : List ℕ → ℕ → Option ℕ
+rowAt own k = pick (ltb k (length own)) (some (getD own k 0)) none
 
 -- a row of three columns spells a name; a row of the name table does
 abbrev pub spellsIn : List ℕ → List ℕ → List ℕ → ℕ → List ℕ → Bool

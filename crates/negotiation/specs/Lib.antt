@@ -1,2 +1,3 @@
 pub mod Written
 pub mod Read
+pub mod Stages

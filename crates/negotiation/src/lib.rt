@@ -1,11 +1,12 @@
 // KEXINIT and negotiation (RFC 4253 section 7.1): `write_kex` and `read_kex` of src/negotiation.rs.
+//
+// Copyright 2016 Pierre-Étienne Meunier, licensed under the Apache License, Version 2.0 (NOTICE); changed: rewritten for
+// lent slices and tables of numbers.
+mod pick;
+mod stages;
 
 use answer::Refusal;
-use names::CipherId;
-use names::CompressionId;
-use names::KexId;
-use names::KeyId;
-use names::MacId;
+use names::{CipherId, CompressionId, KexId, KeyId, MacId};
 
 pub struct Flags {
     pub host_key_is_certificate: bool,

@@ -1,2 +1,4 @@
 pub mod Tables
 pub mod Own
+pub mod Made
+pub mod Defaults

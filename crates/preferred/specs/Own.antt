@@ -40,17 +40,28 @@ abbrev pub other : Side → Side
 other Client = Server
 other Server = Client
 
+-- those that are not among these
+unfoldable pub without : List ℕ → List ℕ → List ℕ
+without dropped ns = kept (λ n. not (member n dropped)) ns
+
 -- "A server's kex list drops ext-info-c and kex-strict-c; a client's drops the -s pair."
 unfoldable pub kexWritten : Tables → List ℕ
-kexWritten t = rows Kex (kept (λ n. not (member n (extensions (other (t .side))))) (t .kex))
+kexWritten t = rows Kex (without (extensions (other (t .side))) (t .kex))
 
 -- "For kex, the extension names are removed [..] first" from the own list (and from that alone: docs/DIFFERENCES.md, C1)
 unfoldable pub kexChosen : Tables → List ℕ
-kexChosen t = rows Kex (kept (λ n. not (member n (extensions Client ++ extensions Server))) (t .kex))
+kexChosen t = rows Kex (without (extensions Client ++ extensions Server) (t .kex))
 
 -- a key number's kind: "every RSA name goes with an RSA key"
 abbrev pub kindOf : ℕ → ℕ
 kindOf n = pick (leb 4 n) 4 n
+
+-- the key numbers of a kind, and those of the kinds held
+unfoldable pub ofKind : ℕ → List ℕ → List ℕ
+ofKind k key = kept (λ n. eqb (kindOf n) k) key
+
+unfoldable pub held : List ℕ → List ℕ → List ℕ
+held kinds key = kept (λ n. member (kindOf n) kinds) key
 
 -- added to a list, each once
 unfoldable pub added : List ℕ → List ℕ → List ℕ
@@ -63,15 +74,17 @@ unfoldable pub certificates : List ℕ → List ℕ → List ℕ → List ℕ �
 certificates names key keyIds [] ids = names
 certificates names key keyIds (k ∷ ks) [] = names
 certificates names key keyIds (k ∷ ks) (i ∷ ids) =
-    certificates (pick (member i keyIds) (added names (kept (λ n. eqb (kindOf n) k) key)) names) key keyIds ks ids
+    certificates (pick (member i keyIds) (added names (ofKind k key)) names) key keyIds ks ids
 
 -- "Key list of a client: certificate names, then key names. Of a server: certificate names, then the preferred key names
 -- whose kind it holds."
-unfoldable pub keyOf : Side → Tables → List ℕ
-keyOf Client t = rows Certificate (t .certificate) ++ rows Key (t .key)
-keyOf Server t =
-    rows Certificate (certificates [] (t .key) (t .keyIds) (t .certKinds) (t .certIds))
-    ++ rows Key (kept (λ n. member (kindOf n) (t .keyKinds)) (t .key))
+unfoldable pub keysOf : Side → List ℕ → List ℕ → List ℕ → List ℕ → List ℕ → List ℕ → List ℕ
+keysOf Client key certificate keyKinds keyIds certKinds certIds = rows Certificate certificate ++ rows Key key
+keysOf Server key certificate keyKinds keyIds certKinds certIds =
+    rows Certificate (certificates [] key keyIds certKinds certIds) ++ rows Key (held keyKinds key)
+
+abbrev pub keyOf : Side → Tables → List ℕ
+keyOf side t = keysOf side (t .key) (t .certificate) (t .keyKinds) (t .keyIds) (t .certKinds) (t .certIds)
 
 abbrev pub keyRows : Tables → List ℕ
 keyRows t = keyOf (t .side) t
@@ -83,10 +96,9 @@ mostOwn = 32
 abbrev pub rowList : List ℕ → RowList
 rowList xs = record { rows = xs ++ replicate (mostOwn - length xs) 0; len = length xs }
 
-unfoldable pub ownOf : Tables → Own
-ownOf t =
-    pick (valid t)
-    (record {
+unfoldable pub listsOf : Tables → Own
+listsOf t =
+    record {
       number = 0;
       «kex_written» = rowList (kexWritten t);
       «kex_chosen» = rowList (kexChosen t);
@@ -94,8 +106,11 @@ ownOf t =
       cipher = rowList (rows Cipher (t .cipher));
       mac = rowList (rows Mac (t .mac));
       compression = rowList (rows Compression (t .compression));
-    })
-    (record {
+    }
+
+unfoldable pub noOwn : Own
+noOwn =
+    record {
       number = 9;
       «kex_written» = rowList [];
       «kex_chosen» = rowList [];
@@ -103,4 +118,7 @@ ownOf t =
       cipher = rowList [];
       mac = rowList [];
       compression = rowList [];
-    })
+    }
+
+unfoldable pub ownOf : Tables → Own
+ownOf t = pick (valid t) (listsOf t) noOwn

@@ -36,43 +36,84 @@ mostRows = 8
 abbrev pub kinds : ℕ
 kinds = 5
 
+-- all of these hold
+unfoldable pub all : List Bool → Bool
+all [] = true
+all (b ∷ bs) = b && all bs
+
+unfoldable pub below : ℕ → List ℕ → Bool
+below count ns = every (λ n. ltb n count) ns
+
 -- "each of 0 to 16 entries", and no "local number outside its table"
 unfoldable pub goodList : Kind → List ℕ → Bool
-goodList k ns = leb (length ns) mostEntries && every (λ n. ltb n (length (namesOf k))) ns
+goodList k ns = all (leb (length ns) mostEntries ∷ below (length (namesOf k)) ns ∷ [])
 
 -- a row table: two columns of one length, up to 8 rows, each of a kind that there is
 unfoldable pub goodRows : List ℕ → List ℕ → Bool
-goodRows ks ids = eqb (length ks) (length ids) && leb (length ks) mostRows && every (λ k. ltb k kinds) ks
+goodRows ks ids = all (eqb (length ks) (length ids) ∷ leb (length ks) mostRows ∷ below kinds ks ∷ [])
+
+-- what holds of each row, by its kind and its identity
+unfoldable pub eachRow : (ℕ → ℕ → Bool) → List ℕ → List ℕ → Bool
+eachRow f [] ids = true
+eachRow f (k ∷ ks) [] = true
+eachRow f (k ∷ ks) (i ∷ ids) = f k i && eachRow f ks ids
 
 -- no row of the second table has the identity of this row but another kind
 unfoldable pub agrees : ℕ → ℕ → List ℕ → List ℕ → Bool
-agrees k id [] ids = true
-agrees k id (l ∷ ks) [] = true
-agrees k id (l ∷ ks) (i ∷ ids) = (not (eqb i id) || eqb l k) && agrees k id ks ids
+agrees k id ks ids = eachRow (λ l i. not (eqb i id) || eqb l k) ks ids
 
 -- no "two rows of equal identity but different kind", one of each table
 unfoldable pub consistent : List ℕ → List ℕ → List ℕ → List ℕ → Bool
-consistent [] ids ks′ ids′ = true
-consistent (k ∷ ks) [] ks′ ids′ = true
-consistent (k ∷ ks) (i ∷ ids) ks′ ids′ = agrees k i ks′ ids′ && consistent ks ids ks′ ids′
+consistent ks ids ks′ ids′ = eachRow (λ k i. agrees k i ks′ ids′) ks ids
+
+unfoldable pub goodLists : List ℕ → List ℕ → List ℕ → List ℕ → List ℕ → List ℕ → Bool
+goodLists kex key certificate cipher mac compression =
+    all
+    (goodList Kex kex
+    ∷ goodList Key key
+    ∷ goodList Certificate certificate
+    ∷ goodList Cipher cipher
+    ∷ goodList Mac mac
+    ∷ goodList Compression compression
+    ∷ [])
+
+unfoldable pub goodTables : List ℕ → List ℕ → List ℕ → List ℕ → Bool
+goodTables keys ids certs ids′ =
+    all
+    (goodRows keys ids
+    ∷ goodRows certs ids′
+    ∷ consistent keys ids keys ids
+    ∷ consistent keys ids certs ids′
+    ∷ consistent certs ids′ certs ids′
+    ∷ [])
 
 -- "A client lends no rows."
 unfoldable pub rowsOf : Side → List ℕ → List ℕ → Bool
-rowsOf Client ks certs = eqb (length ks) 0 && eqb (length certs) 0
-rowsOf Server ks certs = true
+rowsOf Client keys certs = eqb (length keys) 0 && eqb (length certs) 0
+rowsOf Server keys certs = true
 
 -- what is not refused with 9
 unfoldable pub valid : Tables → Bool
 valid t =
-    goodList Kex (t .kex)
-    && goodList Key (t .key)
-    && goodList Certificate (t .certificate)
-    && goodList Cipher (t .cipher)
-    && goodList Mac (t .mac)
-    && goodList Compression (t .compression)
-    && goodRows (t .keyKinds) (t .keyIds)
-    && goodRows (t .certKinds) (t .certIds)
-    && consistent (t .keyKinds) (t .keyIds) (t .keyKinds) (t .keyIds)
-    && consistent (t .keyKinds) (t .keyIds) (t .certKinds) (t .certIds)
-    && consistent (t .certKinds) (t .certIds) (t .certKinds) (t .certIds)
-    && rowsOf (t .side) (t .keyKinds) (t .certKinds)
+    all
+    (goodLists (t .kex) (t .key) (t .certificate) (t .cipher) (t .mac) (t .compression)
+    ∷ goodTables (t .keyKinds) (t .keyIds) (t .certKinds) (t .certIds)
+    ∷ rowsOf (t .side) (t .keyKinds) (t .certKinds)
+    ∷ [])
+
+-- the tables as the code is lent them
+abbrev pub tables : Side → List ℕ → List ℕ → List ℕ → List ℕ → List ℕ → List ℕ → List ℕ → List ℕ → List ℕ → List ℕ → Tables
+tables side kex key certificate cipher mac compression keyKinds keyIds certKinds certIds =
+    record {
+      side = side;
+      kex = kex;
+      key = key;
+      certificate = certificate;
+      cipher = cipher;
+      mac = mac;
+      compression = compression;
+      keyKinds = keyKinds;
+      keyIds = keyIds;
+      certKinds = certKinds;
+      certIds = certIds;
+    }

@@ -1,9 +1,21 @@
 // The local tables (document 01): what they may be, and the lists that this side writes and chooses from. `Preferred`,
 // `server_certificate_names` and `possible_host_key_algos_for_keys` of src/negotiation.rs.
 
+pub mod defaults;
+mod filters;
+mod judge;
+mod make;
+
+pub use defaults::default_lists;
+pub use judge::valid;
+pub use make::own_lists;
+
+// The longest own list: the certificate names and the key names of 16 entries.
+pub const MOST_OWN: usize = 32;
+
 // Rows of the name table, `len` of them, and 0 after them.
 pub struct RowList {
-    pub rows: [u8; 32],
+    pub rows: [u8; MOST_OWN],
     pub len: usize,
 }
 

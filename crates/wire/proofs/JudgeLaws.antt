@@ -11,7 +11,7 @@ use lib.Dec.{eqb, ltb}
 use lib.ListN.{length, take, drop, length-drop, length-take, take-append-drop}
 use Rattle.answer.specs.Answer.{Out, refused, done, pick, _>>=_}
 use Rattle.answer.specs.declared.Refusal.{Refusal}
-use Rattle.answer.proofs.Laws.{split, and-left, and-right}
+use Rattle.answer.proofs.Laws.{split, and-left, and-right, bind-done}
 use Rattle.text.specs.Same.{ascii, highest}
 use Rattle.text.specs.Utf8.{utf8}
 use Rattle.text.proofs.Utf8Laws.{ascii-utf8}
@@ -29,7 +29,7 @@ use Rattle.wire.specs.Names.{Next, cut, judged, judgedList, nameList, st
 use Rattle.wire.specs.Shown.{part}
 use Rattle.wire.specs.Answers.{nextOf, runAt, gotText, checked, whyNotFine}
 use Rattle.wire.proofs.FieldLaws.{No}
-use Rattle.wire.proofs.RunLaws.{run-inside, text-bytes, text-order, text-within}
+use Rattle.wire.proofs.RunLaws.{Inside, run-inside, text-bytes, text-order, text-within}
 use Rattle.wire.proofs.CutLaws.{walk-on, walk-end}
 
 -- empty by length
@@ -190,3 +190,15 @@ module _ (s : List ℕ) (i : ℕ) (r : GotText) (told : gotText s r ≡ run (her
       list-bad-names x q g k = rw (← told, e, part-length, le-leb (p .len) 16384 h, ← text-bytes s i r told p c e, ← f, k, g)
 
 pub ruleset list-laws = (list-ascii, list-utf8, list-bad, list-stop, list-long, list-at, list-bad-names, text-order, text-within)
+
+-- a list that is accepted is a run that is read, and stands inside
+pub list-run : (c : At) (x : Run × At) → nameList c ≡ done x → run c ≡ done x
+unfolding nameList
+list-run c x h =
+    let a = bind-done (run c) _ x h in
+    let b = bind-done _ _ x (a .2) in
+    let d = bind-done _ _ x (b .2) in
+    a .1 ∙ d .2
+
+pub list-inside : (s : List ℕ) (i : ℕ) (r : GotText) (p : Place) (c : Cursor) → gotText s r ≡ nameList (here s i) → r ≡ Text p c → Inside s p (c .at)
+list-inside s i r p c told e = run-inside s i p (c .at) (sym (list-run (here s i) (runAt s p, here s (c .at)) (sym (rw e at told))))

@@ -19,12 +19,6 @@ fn big_endian(a: u8, b: u8, c: u8, d: u8) -> u32
 }
 
 impl Cursor {
-    pub fn new(at: usize) -> Cursor
-        ensures { λ r. ⌜ r ≡ record { at = at } ⌝ }
-    {
-        Cursor { at }
-    }
-
     pub fn u8(self, s: &[u8]) -> GotByte
         ensures { λ r. ⌜ gotByte (now (s .entry)) r ≡ byte (here (now (s .entry)) (self .at)) ⌝ }
     {

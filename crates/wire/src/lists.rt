@@ -50,9 +50,9 @@ impl Cursor {
     }
 }
 
-// A name that may stand in a list. `top` is the list's highest byte: where that is ASCII, no name is looked at again.
-fn stands(list: &[u8], p: Place, top: u8) -> bool
-    requires { ⌜ (top ≡ highest 0 (now list)) × (p .start + p .len ≤ length (now list)) ⌝ }
+// A name that may stand in a list. `high` is the list's highest byte: where that is ASCII, no name is looked at again.
+fn stands(list: &[u8], p: Place, high: u8) -> bool
+    requires { ⌜ (high ≡ highest 0 (now list)) × (p .start + p .len ≤ length (now list)) ⌝ }
     ensures { λ r. ⌜ r ≡ standing (part p (now (list .entry))) ⌝ }
 {
     let start = p.start;
@@ -60,7 +60,7 @@ fn stands(list: &[u8], p: Place, top: u8) -> bool
     if len == 0 {
         return false;
     }
-    if top < 128 {
+    if high < 128 {
         return true;
     }
     text::highest(&list[start..start + len]) < 128

@@ -1,0 +1,4 @@
+pub mod PlaceLaws
+pub mod WalkLaws
+pub mod FirstLaws
+pub mod ChoiceLaws

@@ -1,0 +1,192 @@
+-- Laws of one list and its choice: one for each answer that the code gives. Assumes nothing.
+use mathlib.Core.Path.{_≡_, refl, ap, sym, _∙_}
+use mathlib.Core.Bool.{Bool, true, false, _&&_, _||_, and-false, or-true}
+use mathlib.Core.List.{List, [], _∷_}
+use mathlib.Core.Option.{Option, some, none}
+use Prim.Native.Nat.{ℕ, _+_, _-_, _≤_, _<_}
+use native.Mathlib.Omega.{arith}
+use borrow.Author.Tests.{le-leb, lt-leb, eq-eqb, ne-eqb}
+use lib.Dec.{leb, eqb}
+use lib.ListN.{length, take, drop}
+use Rattle.answer.specs.Answer.{Out, refused, done, pick, _>>=_}
+use Rattle.answer.specs.declared.Refusal.{Refusal}
+use Rattle.answer.proofs.Laws.{split}
+use Rattle.wire.specs.declared.answers.Cursor.{Cursor}
+use Rattle.wire.specs.declared.answers.Place.{Place}
+use Rattle.wire.specs.declared.answers.GotText.{GotText}
+use Rattle.wire.specs.declared.answers.GotText.the-variants.{Text, Refused as NoText}
+use Rattle.wire.specs.Fields.{At, Run, here, run}
+use Rattle.wire.specs.Names.{cut, nameList}
+use Rattle.wire.specs.Shown.{part}
+use Rattle.wire.specs.Answers.{gotText, runAt, whyNoText}
+use Rattle.wire.proofs.FieldLaws.{No}
+use Rattle.wire.proofs.RunLaws.{Inside, run-inside, text-order, text-within, text-bytes}
+use Rattle.wire.proofs.JudgeLaws.{list-inside}
+use Rattle.choice.proofs.ChoiceLaws.{chosen-one}
+use Rattle.choice.specs.declared.Side.{Side}
+use Rattle.choice.specs.declared.Side.the-variants.{Client, Server}
+use Rattle.choice.specs.declared.Chosen.{Chosen}
+use Rattle.choice.specs.declared.Chosen.the-variants.{Row as ChosenRow, Nothing}
+use Rattle.choice.specs.Rows.{chose, chosenRow, firstBoth, offered}
+use Rattle.negotiation.specs.declared.pick.Rule.{Rule}
+use Rattle.negotiation.specs.declared.pick.Rule.the-variants.{Needed, Protected, Optional}
+use Rattle.negotiation.specs.declared.pick.Picked.{Picked}
+use Rattle.negotiation.specs.declared.pick.Picked.the-variants.{Row, Refused as Unpicked}
+use Rattle.negotiation.specs.declared.pick.Ruling.{Ruling}
+use Rattle.negotiation.specs.declared.pick.Ruling.the-variants.{Row as Ruled, Refused as Unruled}
+use Rattle.negotiation.specs.Stages.{ruled, ruling, picked, pickedFrom, pickedOf, pickedAt, standsIn, macRule, whyUnpicked}
+
+some-none : {r : ℕ} → _≡_ {A = Option ℕ} (some r) none → ⊥
+some-none h = let z : _≡_ {A = ℕ} 0 1 = cc in omega arith
+
+-- the rule of a cipher's row
+module _ (r : ℕ) where
+  pub rule-ctr : 29 ≤ r → r ≤ 31 → Protected ≡ macRule r
+  unfolding macRule
+  rule-ctr h k = rw (le-leb 29 r h, le-leb r 31 k)
+
+  pub rule-cbc : 34 ≤ r → r ≤ 36 → Protected ≡ macRule r
+  unfolding macRule
+  rule-cbc h k = rw (le-leb 34 r h, le-leb r 36 k, or-true)
+
+  pub rule-under : r < 29 → Optional ≡ macRule r
+  unfolding macRule
+  rule-under h = rw (lt-leb 29 r h, lt-leb 34 r (omega arith))
+
+  pub rule-between : 31 < r → r < 34 → Optional ≡ macRule r
+  unfolding macRule
+  rule-between h k = rw (lt-leb r 31 h, lt-leb 34 r k, and-false)
+
+  pub rule-over : 36 < r → Optional ≡ macRule r
+  unfolding macRule
+  rule-over h = simp (lt-leb r 31 (omega arith), lt-leb r 36 h, and-false)
+
+pub ruleset rule-laws = (rule-ctr, rule-cbc, rule-under, rule-between, rule-over)
+
+-- a choice under a rule
+module _ (rule : Rule) (n : ℕ) where
+  pub lack-needed : (q : Refusal) → rule ≡ Needed → No n q → refused q ≡ ruled rule n none
+  unfolding ruled
+  lack-needed q e f = rw (e, f)
+
+  pub lack-protected : (q : Refusal) → rule ≡ Protected → No n q → refused q ≡ ruled rule n none
+  unfolding ruled
+  lack-protected q e f = rw (e, f)
+
+  pub lack-optional : rule ≡ Optional → done 38 ≡ ruled rule n none
+  unfolding ruled
+  lack-optional e = rw e
+
+  module _ (r : ℕ) where
+    pub share-needed : rule ≡ Needed → done r ≡ ruled rule n (some r)
+    unfolding ruled
+    share-needed e = rw e
+
+    pub share-optional : rule ≡ Optional → done r ≡ ruled rule n (some r)
+    unfolding ruled
+    share-optional e = rw e
+
+    pub share-none : (q : Refusal) → rule ≡ Protected → r ≡ 38 → No n q → refused q ≡ ruled rule n (some r)
+    unfolding ruled
+    share-none q e h f = rw (e, eq-eqb r 38 h, f)
+
+    pub share-mac : rule ≡ Protected → (r ≡ 38 → ⊥) → done r ≡ ruled rule n (some r)
+    unfolding ruled
+    share-mac e h = rw (e, ne-eqb r 38 h)
+
+  module _ (m : Out ℕ) (k : Chosen) where
+    pub on-row : (r : ℕ) → k ≡ ChosenRow r → m ≡ ruled rule n (some r) → m ≡ ruled rule n (chose k)
+    on-row r e f = rw e f
+
+    pub on-nothing : k ≡ Nothing → m ≡ ruled rule n none → m ≡ ruled rule n (chose k)
+    on-nothing e f = rw e f
+
+pub ruleset ruled-laws =
+  (lack-needed, lack-protected, lack-optional, share-needed, share-optional, share-none, share-mac, on-row, on-nothing)
+
+-- where a list stands
+module _ (p : List ℕ) (i : ℕ) (t : GotText) (told : gotText p t ≡ nameList (here p i)) (place : Place) (c : Cursor) (e : t ≡ Text place c) where
+  pub list-order : place .start ≤ c .at
+  list-order = let h = list-inside p i t place c told e in omega arith
+
+  pub list-within : c .at ≤ length p
+  list-within = list-inside p i t place c told e .within
+
+picked-yes : (b : Bool) (r s : ℕ) → some r ≡ pick b (some s) none → true ≡ b
+picked-yes true r s h = refl
+picked-yes false r s h = absurd (some-none h)
+
+picked-no : (b : Bool) (s : ℕ) → none ≡ pick b (some s) none → false ≡ b
+picked-no true s h = absurd (some-none (sym h))
+picked-no false s h = refl
+
+module _ (spells : ℕ → List ℕ → Bool) where
+  -- the choice from a list's bytes
+  module _ (side : Side) (rule : Rule) (n : ℕ) (own list : List ℕ) (k : Chosen) (told : chose k ≡ chosenRow spells side own (cut list))
+      (u : Ruling) (said : ruling u ≡ ruled rule n (chose k)) (d : ℕ) where
+    pub from-row : (r : ℕ) (f : Bool) → u ≡ Ruled r → f ≡ firstBoth spells own (cut list) → done (r, f, d) ≡ pickedFrom spells side rule n own list d
+    unfolding pickedFrom _>>=_
+    from-row r f e g = rw (← told, ← said, e, g)
+
+    pub from-none : (q : Refusal) → u ≡ Unruled q → refused q ≡ pickedFrom spells side rule n own list d
+    unfolding pickedFrom _>>=_
+    from-none q e = rw (← told, ← said, e)
+
+  -- the same with the cursor, or with what is left from it
+  abbrev left : List ℕ → Out (ℕ × Bool × ℕ) → Out (ℕ × Bool × At)
+  left p (refused q) = refused q
+  left p (done x) = done (x .0, x .1, here p (x .2))
+
+  left-picked : (p : List ℕ) (m : Picked) → pickedOf p m ≡ left p (pickedAt m)
+  left-picked p (Row r f c) = refl
+  left-picked p (Unpicked q) = refl
+
+  left-bind : (p : List ℕ) (m : Out ℕ) (f : Bool) (d : ℕ) → left p (m >>= λ r. done (r, f, d)) ≡ (m >>= λ r. done (r, f, here p d))
+  unfolding _>>=_
+  left-bind p (refused q) f d = refl
+  left-bind p (done r) f d = refl
+
+  left-from : (side : Side) (rule : Rule) (n : ℕ) (own list p : List ℕ) (d : ℕ)
+      → left p (pickedFrom spells side rule n own list d) ≡ pickedFrom spells side rule n own list (here p d)
+  unfolding pickedFrom
+  left-from side rule n own list p d = left-bind p (ruled rule n (chosenRow spells side own (cut list))) (firstBoth spells own (cut list)) d
+
+  -- the list and the choice
+  module _ (side : Side) (rule : Rule) (n : ℕ) (own p : List ℕ) (i : ℕ) (t : GotText) (told : gotText p t ≡ nameList (here p i)) where
+    pub pick-stop : (x q : Refusal) → t ≡ NoText x → q ≡ whyNoText t → refused q ≡ picked spells side rule n own (here p i)
+    unfolding picked _>>=_
+    pick-stop x q e f = rw (← told, f, e)
+
+    module _ (place : Place) (c : Cursor) (e : t ≡ Text place c) where
+      pub pick-at : (m : Picked) → pickedAt m ≡ pickedFrom spells side rule n own (take (c .at - place .start) (drop (place .start) p)) (c .at)
+          → pickedOf p m ≡ picked spells side rule n own (here p i)
+      unfolding picked _>>=_
+      pick-at m f =
+          let h = list-inside p i t place c told e in
+          let l : c .at - place .start ≡ place .len = omega arith in
+          rw (← told, e, left-picked p m, f, l) (left-from side rule n own (part place p) p (c .at))
+
+  -- a row's name in a list
+  module _ (row : ℕ) (p : List ℕ) (i : ℕ) (t : GotText) (told : gotText p t ≡ run (here p i)) where
+    pub stands-stop : (x : Refusal) → t ≡ NoText x → false ≡ standsIn spells row (here p i)
+    unfolding standsIn
+    stands-stop x e = rw (← told, e)
+
+    module _ (place : Place) (c : Cursor) (e : t ≡ Text place c) (k : Chosen)
+        (f : chose k ≡ chosenRow spells Client (row ∷ []) (cut (take (c .at - place .start) (drop (place .start) p)))) where
+      one : chose k ≡ pick (offered spells row (cut (part place p))) (some row) none
+      one = f ∙ chosen-one spells Client row _ ∙ rw (text-bytes p i t told place c e)
+
+      pub stands-yes : (r : ℕ) → k ≡ ChosenRow r → true ≡ standsIn spells row (here p i)
+      unfolding standsIn
+      stands-yes r g = rw (← told, e) (picked-yes _ r row (rw g at one))
+
+      pub stands-no : k ≡ Nothing → false ≡ standsIn spells row (here p i)
+      unfolding standsIn
+      stands-no g = rw (← told, e) (picked-no _ row (rw g at one))
+
+pub ruleset from-laws = (from-row, from-none)
+
+pub ruleset pick-laws = (pick-stop, list-order, list-within, pick-at)
+
+pub ruleset stands-laws = (text-order, text-within, stands-stop, stands-yes, stands-no)

@@ -1,0 +1,159 @@
+// One list of the payload and the choice from it: all seven lists go through here.
+ghost use mathlib.Core.Path.{_≡_};
+ghost use mathlib.Core.Option.{some, none};
+ghost use Rattle.wire.specs.Fields.{here};
+ghost use Rattle.choice.specs.Rows.{spellsIn, chose};
+ghost use Rattle.negotiation.specs.Stages.{ruled, ruling, picked, pickedFrom, pickedAt, standsIn, macRule, pickedOf, whyUnpicked};
+
+use answer::{Refusal, refuse};
+use choice::{Chosen, Side, both_first, choose};
+use wire::answers::{Cursor, GotText};
+
+// What a list without a shared name comes to.
+pub enum Rule {
+    Needed,
+    Protected,
+    Optional,
+}
+
+// The row that was chosen, whether it is both first, and the next cursor.
+pub enum Picked {
+    Row(u8, bool, Cursor),
+    Refused(Refusal),
+}
+
+impl Picked {
+    pub fn why(self) -> Refusal
+        ensures { λ r. ⌜ r ≡ whyUnpicked self ⌝ }
+    {
+        match self {
+            Picked::Row(_, _, _) => refuse(0),
+            Picked::Refused(r) => r,
+        }
+    }
+}
+
+// A row under a rule, or the refusal.
+pub enum Ruling {
+    Row(u8),
+    Refused(Refusal),
+}
+
+// The row of the MAC `none`.
+const NO_MAC: u8 = 38;
+
+// The ctr and cbc rows of the cipher names.
+pub fn mac_rule(cipher: u8) -> Rule
+    ensures { λ r. ⌜ r ≡ macRule cipher ⌝ }
+{
+    if cipher < 29 {
+        return Rule::Optional;
+    }
+    if cipher <= 31 {
+        return Rule::Protected;
+    }
+    if cipher < 34 {
+        return Rule::Optional;
+    }
+    if cipher <= 36 {
+        return Rule::Protected;
+    }
+    Rule::Optional
+}
+
+fn lacking(rule: Rule, number: u8) -> Ruling
+    ensures { λ r. ⌜ ruling r ≡ ruled rule number none ⌝ }
+{
+    match rule {
+        Rule::Needed => Ruling::Refused(refuse(number)),
+        Rule::Protected => Ruling::Refused(refuse(number)),
+        Rule::Optional => Ruling::Row(NO_MAC),
+    }
+}
+
+fn shared(rule: Rule, number: u8, row: u8) -> Ruling
+    ensures { λ r. ⌜ ruling r ≡ ruled rule number (some row) ⌝ }
+{
+    match rule {
+        Rule::Needed => Ruling::Row(row),
+        Rule::Protected => {
+            if row == NO_MAC {
+                return Ruling::Refused(refuse(number));
+            }
+            Ruling::Row(row)
+        }
+        Rule::Optional => Ruling::Row(row),
+    }
+}
+
+fn rule_on(rule: Rule, number: u8, chosen: Chosen) -> Ruling
+    ensures { λ r. ⌜ ruling r ≡ ruled rule number (chose chosen) ⌝ }
+{
+    match chosen {
+        Chosen::Row(row) => shared(rule, number, row),
+        Chosen::Nothing => lacking(rule, number),
+    }
+}
+
+// The choice from a list's bytes. The refusal carries `number` where the rule asks for a shared name and there is none.
+fn pick_from(
+    spellings: &[u8],
+    starts: &[u16],
+    lengths: &[u8],
+    side: Side,
+    rule: Rule,
+    number: u8,
+    own: &[u8],
+    list: &[u8],
+    d: Cursor,
+) -> Picked
+    ensures { λ r. ⌜ pickedAt r ≡ pickedFrom (spellsIn (now (spellings .entry)) (now (starts .entry)) (now (lengths .entry))) side rule number (now (own .entry)) (now (list .entry)) (d .at) ⌝ }
+{
+    let chosen = choose(spellings, starts, lengths, side, own, list);
+    let first = both_first(spellings, starts, lengths, own, list);
+    let ruling = rule_on(rule, number, chosen);
+    match ruling {
+        Ruling::Row(row) => Picked::Row(row, first, d),
+        Ruling::Refused(r) => Picked::Refused(r),
+    }
+}
+
+pub fn pick_name(
+    spellings: &[u8],
+    starts: &[u16],
+    lengths: &[u8],
+    side: Side,
+    rule: Rule,
+    number: u8,
+    own: &[u8],
+    p: &[u8],
+    c: Cursor,
+) -> Picked
+    ensures { λ r. ⌜ pickedOf (now (p .entry)) r ≡ picked (spellsIn (now (spellings .entry)) (now (starts .entry)) (now (lengths .entry))) side rule number (now (own .entry)) (here (now (p .entry)) (c .at)) ⌝ }
+{
+    let t = c.name_list(p);
+    let GotText::Text(place, d) = t else {
+        return Picked::Refused(t.why());
+    };
+    let start = place.start;
+    let end = d.at;
+    pick_from(spellings, starts, lengths, side, rule, number, own, &p[start..end], d)
+}
+
+// Whether a row's name stands in the list at the cursor: how a peer offers strict key exchange.
+pub fn stands_in(spellings: &[u8], starts: &[u16], lengths: &[u8], row: u8, p: &[u8], c: Cursor) -> bool
+    ensures { λ r. ⌜ r ≡ standsIn (spellsIn (now (spellings .entry)) (now (starts .entry)) (now (lengths .entry))) row (here (now (p .entry)) (c .at)) ⌝ }
+{
+    let t = c.run(p);
+    let GotText::Text(place, d) = t else {
+        return false;
+    };
+    let start = place.start;
+    let end = d.at;
+    let own = [row];
+    let chosen = choose(spellings, starts, lengths, Side::Client, &own, &p[start..end]);
+    match chosen {
+        Chosen::Row(_) => true,
+        Chosen::Nothing => false,
+    }
+}

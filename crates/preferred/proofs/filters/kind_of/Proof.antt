@@ -1,0 +1,14 @@
+use Rattle.preferred.proofs.MadeLaws.{kind-rsa, kind-own}
+use Rattle.preferred.proofs.filters.kind_of.Statement.{statement}
+use Rattle.preferred.proofs.filters.kind_of.Tie as tie
+use Rattle.preferred.proofs.filters.kind_of.Reads as reads
+use Rattle.preferred.proofs.filters.kind_of.Lts as lts
+
+returns : tie.Need-returns
+returns c = search kind-rsa
+
+returns-2 : tie.Need-returns-2
+returns-2 c = search kind-own
+
+pub kind-of-spec : {M : Type 1} → statement M
+kind-of-spec = tie.close (tie.spec returns returns-2)

@@ -1,0 +1,14 @@
+use Rattle.preferred.proofs.JudgeLaws.{agree-laws}
+use Rattle.preferred.proofs.judge.agree.Statement.{statement}
+use Rattle.preferred.proofs.judge.agree.Tie as tie
+use Rattle.preferred.proofs.judge.agree.Reads as reads
+use Rattle.preferred.proofs.judge.agree.Lts as lts
+
+returns : tie.Need-returns
+returns c = search agree-laws
+
+returns-2 : tie.Need-returns-2
+returns-2 c = search agree-laws
+
+pub agree-spec : {M : Type 1} → statement M
+agree-spec = tie.close (tie.spec returns returns-2)

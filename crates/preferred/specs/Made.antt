@@ -1,0 +1,31 @@
+-- What the private functions promise of a list that is being made: it holds up to 32, and a full list stays as it is.
+use mathlib.Core.Bool.{Bool}
+use mathlib.Core.List.{List, [], _∷_}
+use Prim.Native.Nat.{ℕ, _+_}
+use lib.Dec.{ltb}
+use lib.ListN.{set, take}
+use Rattle.answer.specs.Answer.{pick}
+use Rattle.preferred.specs.declared.RowList.{RowList}
+use Rattle.preferred.specs.Own.{member, ofKind, mostOwn}
+
+-- what stands in it
+abbrev pub shown : RowList → List ℕ
+shown l = take (l .len) (l .rows)
+
+unfoldable pub pushed : RowList → ℕ → RowList
+pushed l n = pick (ltb (l .len) mostOwn) (record { rows = set (l .rows) (l .len) n; len = l .len + 1 }) l
+
+unfoldable pub joined : RowList → List ℕ → RowList
+joined l [] = l
+joined l (n ∷ ns) = joined (pushed l n) ns
+
+-- each once
+unfoldable pub joinedOnce : RowList → List ℕ → RowList
+joinedOnce l [] = l
+joinedOnce l (n ∷ ns) = joinedOnce (pick (member n (shown l)) l (pushed l n)) ns
+
+-- for each certificate row with a key row of equal identity, the key numbers of its kind
+unfoldable pub certified : RowList → List ℕ → List ℕ → List ℕ → List ℕ → RowList
+certified l key keyIds [] ids = l
+certified l key keyIds (k ∷ ks) [] = l
+certified l key keyIds (k ∷ ks) (i ∷ ids) = certified (pick (member i keyIds) (joinedOnce l (ofKind k key)) l) key keyIds ks ids

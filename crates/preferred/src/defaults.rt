@@ -1,0 +1,42 @@
+// The lists of `Preferred::DEFAULT` (src/negotiation.rs): for a caller to lend, in part or whole.
+ghost use mathlib.Core.Path.{_≡_};
+ghost use Rattle.preferred.specs.Own.{ownOf};
+ghost use Rattle.preferred.specs.Defaults.{defaults};
+use super::Own;
+use super::make::own_lists;
+use choice::Side;
+
+pub const KEX: [u8; 13] = [0, 1, 2, 3, 4, 5, 6, 7, 8, 9, 10, 11, 12];
+
+pub const KEY: [u8; 7] = [0, 1, 2, 3, 4, 5, 6];
+
+pub const CIPHER: [u8; 5] = [10, 6, 4, 3, 2];
+
+pub const MAC: [u8; 4] = [1, 2, 3, 4];
+
+pub const COMPRESSION: [u8; 1] = [0];
+
+// The own lists of a side that lends these, and its rows.
+pub fn default_lists(
+    side: Side,
+    key_kinds: &[u8],
+    key_ids: &[u32],
+    cert_kinds: &[u8],
+    cert_ids: &[u32],
+) -> Own
+    ensures { λ r. ⌜ r ≡ ownOf (defaults side (now («key_kinds» .entry)) (now («key_ids» .entry)) (now («cert_kinds» .entry)) (now («cert_ids» .entry))) ⌝ }
+{
+    own_lists(
+        side,
+        &KEX,
+        &KEY,
+        &KEX[..0],
+        &CIPHER,
+        &MAC,
+        &COMPRESSION,
+        key_kinds,
+        key_ids,
+        cert_kinds,
+        cert_ids,
+    )
+}
