@@ -4,19 +4,18 @@ use mathlib.Core.Bool.{Bool, true, _&&_, _||_, and-comm}
 use mathlib.Core.List.{List}
 use Prim.Native.Nat.{ℕ}
 use lib.ListN.{length}
-use Rattle.wire.specs.Names.{every}
 use Rattle.names.specs.Tables.{allNames, kexNames}
 use Rattle.names.specs.declared.Kind.the-variants.{Kex}
 use Rattle.choice.specs.declared.Side.{Side}
 use Rattle.choice.specs.declared.Side.the-variants.{Client, Server}
-use Rattle.choice.specs.Choice.{listed}
+use Rattle.choice.specs.Choice.{listed, chosen}
 use Rattle.choice.specs.Rows.{rowSpelled}
-use Rattle.preferred.specs.Tables.{Tables, valid}
+use Rattle.preferred.specs.Tables.{Tables, valid, goodList}
+use Rattle.preferred.proofs.ValidLaws.{valid-parts}
 use Rattle.preferred.specs.Own.{member, strictName, other}
 use Rattle.negotiation.specs.Written.{kexList, kexInit}
 use Rattle.negotiation.specs.Read.{strict, readKex}
 use Rattle.agreement.specs.Both.{settling, clientStrict, serverStrict, shared, bothStrict, both}
-use Rattle.agreement.proofs.OwnLaws.{inKind, good, lists-good}
 use Rattle.agreement.proofs.WrittenLaws.{chosenAll, reads}
 use Rattle.agreement.proofs.ApartLaws.{apart-server, apart-client, apart-kex, strict-client, strict-server}
 
@@ -29,33 +28,35 @@ module _ (tc ts : Tables) (b : Bool) (c : tc .side ≡ Client) (s : ts .side ≡
   abbrev strictAt : Side → Tables → List (List ℕ) → Bool
   strictAt side t peer = (member (strictName side) (t .kex) && listed (rowSpelled (strictName (other side))) peer) || b
 
-  client-in : every (inKind Kex) (tc .kex) ≡ true
-  client-in = good Kex (tc .kex) (lists-good tc cv .kex) .inTable
+  gc : goodList Kex (tc .kex) ≡ true
+  gc = valid-parts tc cv .kex
 
-  server-in : every (inKind Kex) (ts .kex) ≡ true
-  server-in = good Kex (ts .kex) (lists-good ts sv .kex) .inTable
+  gs : goodList Kex (ts .kex) ≡ true
+  gs = valid-parts ts sv .kex
 
   client-choice : chosenAll (tc .side) tc ts ≡ shared tc ts
+  unfolding chosen
   client-choice =
       ap (λ (x : Side). chosenAll x tc ts) c
-      ∙ rw (← (apart-kex tc client-in), apart-server (kexList tc) (kexList ts))
+      ∙ rw (← (apart-kex tc gc), apart-server (kexList tc) (kexList ts))
 
   server-choice : chosenAll (ts .side) ts tc ≡ shared tc ts
+  unfolding chosen
   server-choice =
       ap (λ (x : Side). chosenAll x ts tc) s
-      ∙ rw (← (apart-kex ts server-in), apart-client (kexList tc) (kexList ts))
+      ∙ rw (← (apart-kex ts gs), apart-client (kexList tc) (kexList ts))
 
   client-strict : strict tc b (kexList ts) ≡ bothStrict tc ts b
   unfolding strict
   client-strict =
       ap (λ (x : Side). strictAt x tc (kexList ts)) c
-      ∙ rw (strict-names .1, ← (strict-client tc client-in c))
+      ∙ rw (strict-names .1, ← (strict-client tc gc c))
 
   server-strict : strict ts b (kexList tc) ≡ bothStrict tc ts b
   unfolding strict
   server-strict =
       ap (λ (x : Side). strictAt x ts (kexList tc)) s
-      ∙ rw (strict-names .0, ← (strict-server ts server-in s)) (ap (λ x. x || b) (and-comm (listed serverStrict (kexList ts)) (listed clientStrict (kexList tc))))
+      ∙ rw (strict-names .0, ← (strict-server ts gs s)) (ap (λ x. x || b) (and-comm (listed serverStrict (kexList ts)) (listed clientStrict (kexList tc))))
 
   -- each reads the other's, and both come to the one block over what they share
   pub client-reads : (cookie : List ℕ) → length cookie ≡ 16 → readKex tc b (kexInit ts cookie) ≡ both tc ts b

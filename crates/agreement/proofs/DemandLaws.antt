@@ -15,7 +15,7 @@ use Rattle.negotiation.specs.Read.{readKex}
 use Rattle.agreement.specs.Both.{kexOffer, both}
 use Rattle.agreement.specs.Ended.{Accepted, Lacks, Ended, bothAccept, bothRefuse, Refuses}
 use Rattle.agreement.specs.Demand.{Ends, Agreed, Demand3}
-use Rattle.agreement.proofs.OwnLaws.{lists-good}
+use Rattle.preferred.proofs.ValidLaws.{valid-parts}
 use Rattle.agreement.proofs.SharedLaws.{not-both-shared}
 use Rattle.agreement.proofs.AgreeLaws.{client-reads, server-reads}
 use Rattle.agreement.proofs.EndedLaws.{Came, came-done, came-refused, both-come, not-mac}
@@ -45,7 +45,7 @@ came-ended tc ts b (came-refused {r = r} u) x y p q = bothRefuse r p q u
 
 module _ (tc ts : Tables) (kc ks : List ℕ) (e : Ends tc ts kc ks) (b : Bool) where
   come : Came tc ts b (both tc ts b)
-  come = both-come tc ts b (lists-good tc (e .clientValid)) (e .oneProtects)
+  come = both-come tc ts b (valid-parts tc (e .clientValid)) (e .oneProtects)
 
   at-client : readKex tc b (kexInit ts ks) ≡ both tc ts b
   at-client = client-reads tc ts b (e .isClient) (e .isServer) (e .clientValid) (e .serverValid) ks (e .serverCookie16)

@@ -20,7 +20,7 @@ use Rattle.negotiation.specs.Read.{needsMac, noMac, settleMac}
 use Rattle.agreement.specs.Protected.{protecting}
 use Rattle.agreement.specs.Both.{settling, kexOffer, shared, bothStrict, both}
 use Rattle.agreement.specs.Ended.{First, NoneShared, MacOf, Accepted, Lacks, FirstLacking}
-use Rattle.agreement.proofs.OwnLaws.{Valid}
+use Rattle.preferred.proofs.ValidLaws.{Valid}
 use Rattle.agreement.proofs.NumberLaws.{made-of}
 use Rattle.agreement.proofs.SharedLaws.{Judged, nothing, first, judge, first-one, first-client, not-both-shared}
 

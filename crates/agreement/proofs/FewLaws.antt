@@ -1,35 +1,30 @@
--- What a side writes is no longer than a reader takes: no list is of more rows than two preference lists, and no name of
--- the table has more than 63 bytes. Assumes nothing.
+-- What a side writes is no longer than a reader takes: no list has more rows than two preference lists, and no name of the
+-- table has more than 63 bytes. Assumes nothing.
 use mathlib.Core.Path.{_≡_, refl}
-use mathlib.Core.Bool.{Bool, true, not}
+use mathlib.Core.Bool.{Bool, true}
 use mathlib.Core.List.{List, [], _∷_, _++_, append-assoc}
-use Prim.Native.Nat.{ℕ, _+_, _*_, _≤_, _<_}
+use Prim.Native.Nat.{ℕ, _+_, _*_, _≤_}
 use native.Mathlib.Omega.{arith}
-use lib.Dec.{ltb, leb}
+use lib.Dec.{ltb, leb, lit≤}
 use lib.ListN.{length, length-append, length-map}
-use borrow.Author.Tests.{ltb-true, leb-true, lt-ltb}
+use borrow.Author.Tests.{ltb-true, leb-true}
 use Rattle.answer.proofs.Laws.{and-left, and-right}
+use Rattle.answer.specs.Answer.{done, _>>=_}
 use Rattle.text.specs.Same.{ascii}
 use Rattle.text.proofs.Utf8Laws.{ascii-utf8}
 use Rattle.put.specs.Written.{word}
-use Rattle.answer.specs.Answer.{done, _>>=_}
 use Rattle.wire.specs.Fields.{string}
 use Rattle.wire.specs.Names.{join, nameable, every}
-use Rattle.wire.proofs.BackLaws.{every-so, list-back, names-back, string-back, join-ascii}
-use Rattle.names.specs.Tables.{namesOf, allNames, kexNames, keyNames, certificateNames, cipherNames, macNames, compressionNames, firstRow}
-use Rattle.names.specs.declared.Kind.{Kind}
-use Rattle.names.specs.declared.Kind.the-variants.{Kex, Key, Certificate}
+use Rattle.wire.proofs.BackLaws.{list-back, names-back, string-back, join-ascii}
+use Rattle.names.specs.Tables.{allNames, kexNames, keyNames, certificateNames, cipherNames, macNames, compressionNames}
+use Rattle.names.specs.declared.Kind.the-variants.{Cipher, Mac, Compression}
 use Rattle.names.proofs.PlaceLaws.{each, each-at}
-use Rattle.names.proofs.TableLaws.{kind-rows, row-count}
-use Rattle.choice.specs.declared.Side.{Side}
-use Rattle.choice.specs.declared.Side.the-variants.{Client, Server}
 use Rattle.choice.specs.Rows.{rowSpelled, spelledRows}
-use Rattle.preferred.specs.Tables.{Tables, mostEntries}
-use Rattle.preferred.specs.Own.{member, kept, rows, extensions, other, kexWritten, keyOf, kindOf, certificates}
+use Rattle.preferred.specs.Tables.{Tables, valid}
+use Rattle.preferred.specs.Own.{mostOwn, rows, kexWritten, keyRows}
+use Rattle.preferred.proofs.RangeLaws.{table-rows, written-within, written-short, keys-within, keys-short, ciphers-within, ciphers-short, macs-within, macs-short, compressions-within, compressions-short}
 use Rattle.negotiation.specs.Written.{listField}
 use Rattle.negotiation.specs.Read.{offer}
-use Rattle.agreement.proofs.OwnLaws.{inKind, Good}
-use Rattle.agreement.proofs.KeptLaws.{every-append, kept-length, kept-every, certificates-every, certificates-few}
 
 -- a name of the table may stand in a list, and is short
 abbrev short : List ℕ → Bool
@@ -48,20 +43,20 @@ unfolding allNames kexNames keyNames certificateNames cipherNames macNames compr
 all-short = refl
 
 abbrev pub isRow : ℕ → Bool
-isRow r = ltb r 44
+isRow r = ltb r (length allNames)
 
 -- rows of the table, no more than two preference lists of them
 pub record Few (rs : List ℕ) : Type 0 where
   pub inTable : every isRow rs ≡ true
-  pub most : length rs ≤ 2 * mostEntries
+  pub most : length rs ≤ mostOwn
 
 -- what is so of every name of the table is so of every name of such a list
 spelled-every : (f : List ℕ → Bool) (rs : List ℕ) → each f allNames ≡ true → every isRow rs ≡ true → every f (spelledRows rs) ≡ true
 unfolding rowSpelled
 spelled-every f [] a h = refl
 spelled-every f (r ∷ rs) a h =
-    let l = ltb-true r 44 (and-left (isRow r) (every isRow rs) h) in
-    rw (each-at f allNames a r (rw row-count l)) (spelled-every f rs a (and-right (isRow r) (every isRow rs) h))
+    let l = ltb-true r (length allNames) (and-left (isRow r) (every isRow rs) h) in
+    rw (each-at f allNames a r l) (spelled-every f rs a (and-right (isRow r) (every isRow rs) h))
 
 join-length : (ns : List (List ℕ)) → every short ns ≡ true → length (join ns) ≤ 64 * length ns
 unfolding join
@@ -73,16 +68,16 @@ join-length (n ∷ (m ∷ ns)) h =
     simp length-append (omega arith)
 
 module _ (rs : List ℕ) (few : Few rs) where
-  count : length (spelledRows rs) ≤ 2 * mostEntries
+  count : length (spelledRows rs) ≤ mostOwn
   count = rw (length-map rs rowSpelled) (few .most)
 
-  pub bytes-few : length (join (spelledRows rs)) ≤ 128 * mostEntries
+  pub bytes-few : length (join (spelledRows rs)) ≤ 64 * mostOwn
   bytes-few =
       let h = join-length (spelledRows rs) (spelled-every short rs all-short (few .inTable)) in
       let c = count in
       omega arith
 
-  pub field-few : length (listField (spelledRows rs)) ≤ 4 + 128 * mostEntries
+  pub field-few : length (listField (spelledRows rs)) ≤ 4 + 64 * mostOwn
   unfolding listField word
   field-few = let h = bytes-few in omega arith
 
@@ -112,53 +107,23 @@ module _ (rs : List ℕ) (few : Few rs) where
       rw append-assoc
       (string-back i (join (spelledRows rs)) r (omega (arith, bytes-few)) (ascii-utf8 _ (join-ascii (spelledRows rs) h)))
 
--- the numbers of a kind, as rows
-rows-in : (k : Kind) (ns : List ℕ) → every (inKind k) ns ≡ true → every isRow (rows k ns) ≡ true
-rows-in k [] h = refl
-rows-in k (n ∷ ns) h =
-    let l : n < length (namesOf k) = ltb-true n (length (namesOf k)) (and-left (inKind k n) (every (inKind k) ns) h) in
-    rw (lt-ltb (firstRow k + n) 44 (omega (arith, kind-rows k))) (rows-in k ns (and-right (inKind k n) (every (inKind k) ns) h))
+-- the lists of valid tables are such
+module _ (t : Tables) (v : valid t ≡ true) where
+  pub kexes : Few (kexWritten t)
+  kexes = record { inTable = table-rows 0 13 (kexWritten t) (lit≤ tt) (written-within t v); most = omega (arith, written-short t v) }
 
-rows-length : (k : Kind) (ns : List ℕ) → length (rows k ns) ≡ length ns
-rows-length k ns = length-map ns (λ n. firstRow k + n)
+  pub keys : Few (keyRows t)
+  keys = record { inTable = table-rows 13 27 (keyRows t) (lit≤ tt) (keys-within t v); most = keys-short t v }
 
-pub few-rows : (k : Kind) (ns : List ℕ) → Good k ns → Few (rows k ns)
-few-rows k ns g = record { inTable = rows-in k ns (g .inTable); most = rw (rows-length k ns) (omega arith) }
+  pub ciphers : Few (rows Cipher (t .cipher))
+  ciphers = record { inTable = table-rows 27 38 (rows Cipher (t .cipher)) (lit≤ tt) (ciphers-within t v); most = omega (arith, ciphers-short t v) }
 
-few-append : (j k : Kind) (ms ns : List ℕ) → Good j ms → Good k ns → Few (rows j ms ++ rows k ns)
-few-append j k ms ns g h =
-    record {
-      inTable = every-append isRow (rows j ms) (rows k ns) (rows-in j ms (g .inTable)) (rows-in k ns (h .inTable));
-      most = simp (length-append, rows-length) (omega arith);
-    }
+  pub macs : Few (rows Mac (t .mac))
+  macs = record { inTable = table-rows 38 43 (rows Mac (t .mac)) (lit≤ tt) (macs-within t v); most = omega (arith, macs-short t v) }
 
-pub good-kept : (k : Kind) (f : ℕ → Bool) (ns : List ℕ) → Good k ns → Good k (kept f ns)
-good-kept k f ns g =
-    record { most = omega (arith, kept-length f ns); inTable = kept-every f (inKind k) ns (g .inTable) }
-
-pub few-kex : (t : Tables) → Good Kex (t .kex) → Few (kexWritten t)
-unfolding kexWritten
-few-kex t g = few-rows Kex _ (good-kept Kex (λ n. not (member n (extensions (other (t .side))))) (t .kex) g)
-
--- a certificate name's number is a key's
-as-certificate : (n : ℕ) → inKind Key n ≡ true → inKind Certificate n ≡ true
-unfolding namesOf keyNames certificateNames
-as-certificate n h = h
-
-module _ (key keyIds ks ids : List ℕ) (g : Good Key key) where
-  pub good-certificates : Good Certificate (certificates [] key keyIds ks ids)
-  good-certificates =
+  pub compressions : Few (rows Compression (t .compression))
+  compressions =
       record {
-        most = omega (arith, certificates-few key keyIds ks ids);
-        inTable =
-            certificates-every key keyIds (inKind Certificate) (every-so (inKind Key) (inKind Certificate) as-certificate key (g .inTable)) []
-            ks ids refl;
+        inTable = table-rows 43 44 (rows Compression (t .compression)) (lit≤ tt) (compressions-within t v);
+        most = omega (arith, compressions-short t v);
       }
-
-pub few-key : (side : Side) (t : Tables) → Good Certificate (t .certificate) → Good Key (t .key) → Few (keyOf side t)
-unfolding keyOf
-few-key Client t c g = few-append Certificate Key (t .certificate) (t .key) c g
-few-key Server t c g =
-    few-append Certificate Key (certificates [] (t .key) (t .keyIds) (t .certKinds) (t .certIds)) _
-    (good-certificates (t .key) (t .keyIds) (t .certKinds) (t .certIds) g)
-    (good-kept Key (λ n. member (kindOf n) (t .keyKinds)) (t .key) g)

@@ -1,6 +1,6 @@
 -- The names that are chosen have numbers, and the record holds them. Assumes nothing.
 use mathlib.Core.Path.{_≡_, refl}
-use mathlib.Core.Bool.{Bool, true, false, not, or-true}
+use mathlib.Core.Bool.{Bool, true, false, or-true}
 use mathlib.Core.List.{List, [], _∷_, _++_, map-append}
 use mathlib.Core.Logic.{_⊎_, inl, inr, ⊎-elim}
 use mathlib.Core.Option.{Option, some, none}
@@ -17,15 +17,15 @@ use Rattle.choice.specs.declared.Side.{Side}
 use Rattle.choice.specs.declared.Side.the-variants.{Client, Server}
 use Rattle.choice.specs.Choice.{listed}
 use Rattle.choice.specs.Rows.{spelledRows}
-use Rattle.preferred.specs.Tables.{Tables}
-use Rattle.preferred.specs.Own.{member, kept, rows, extensions, kexChosen, keyOf, certificates, kindOf}
+use Rattle.preferred.specs.Tables.{Tables, goodList}
+use Rattle.preferred.specs.Own.{without, rows, extensions, kexChosen, held, certificates, keysOf, keyOf}
+use Rattle.preferred.proofs.OwnLaws.{good-without, good-held, good-certificates}
+use Rattle.preferred.proofs.ValidLaws.{Valid}
 use Rattle.negotiation.specs.Written.{keyList, cipherList, macList, compressionList}
 use Rattle.negotiation.specs.Read.{number, noMac, isCertificate, isSome, keyNumber, settled, orZero}
 use Rattle.agreement.specs.Both.{kexOffer}
 use Rattle.agreement.specs.Ended.{MadeOf}
-use Rattle.agreement.proofs.OwnLaws.{inKind, Good, good, Valid, Known, known, known-number}
-use Rattle.agreement.proofs.KeptLaws.{kept-every}
-use Rattle.agreement.proofs.FewLaws.{good-kept, good-certificates}
+use Rattle.agreement.proofs.NameLaws.{Known, known, known-number}
 use Rattle.agreement.proofs.ApartLaws.{apart-kex}
 
 -- a name with a number: the record's is that
@@ -43,36 +43,29 @@ listed-append name (x ∷ xs) ys h =
     split (same x name) (λ e. inl (rw e))
     (λ e. ⊎-elim (λ l. inl (rw (l) (or-true (same x name)))) (λ l. inr l) (listed-append name xs ys (rw e at h)))
 
+either : (name cs ks : List ℕ) → goodList Certificate cs ≡ true → goodList Key ks ≡ true
+    → listed name (spelledRows (rows Certificate cs ++ rows Key ks)) ≡ true → Known Certificate name ⊎ Known Key name
+either name cs ks g k l =
+    ⊎-elim (λ c. inl (known Certificate cs name g c)) (λ c. inr (known Key ks name k c))
+    (listed-append name (spelledRows (rows Certificate cs)) (spelledRows (rows Key ks)) (rw map-append at l))
+
 module _ (t : Tables) (v : Valid t) where
   kex-known : (name : List ℕ) → listed name (kexOffer t) ≡ true → Known Kex name
   unfolding kexChosen
   kex-known name h =
-      let g = good Kex (t .kex) (v .kex) .inTable in
-      known Kex (kept plain (t .kex)) name (kept-every plain (inKind Kex) (t .kex) g) (rw (apart-kex t g) at h)
-    where
-      plain : ℕ → Bool
-      plain n = not (member n (extensions Client ++ extensions Server))
+      known Kex (without (extensions Client ++ extensions Server) (t .kex)) name
+      (good-without Kex (extensions Client ++ extensions Server) (t .kex) (v .kex)) (rw (apart-kex t (v .kex)) at h)
 
   -- a name of the key list is a certificate's or a key's
   key-known : (name : List ℕ) → listed name (keyList t) ≡ true → Known Certificate name ⊎ Known Key name
-  unfolding keyOf
+  unfolding keysOf
   key-known name h = go (t .side) h
     where
-      either : (cs ks : List ℕ) → Good Certificate cs → Good Key ks → listed name (spelledRows (rows Certificate cs ++ rows Key ks)) ≡ true
-          → Known Certificate name ⊎ Known Key name
-      either cs ks g k l =
-          ⊎-elim (λ c. inl (known Certificate cs name (g .inTable) c)) (λ c. inr (known Key ks name (k .inTable) c))
-          (listed-append name (spelledRows (rows Certificate cs)) (spelledRows (rows Key ks)) (rw map-append at l))
-
-      key : Good Key (t .key)
-      key = good Key (t .key) (v .key)
-
       go : (side : Side) → listed name (spelledRows (keyOf side t)) ≡ true → Known Certificate name ⊎ Known Key name
-      go Client l = either (t .certificate) (t .key) (good Certificate (t .certificate) (v .certificate)) key l
+      go Client l = either name (t .certificate) (t .key) (v .certificate) (v .key) l
       go Server l =
-          either (certificates [] (t .key) (t .keyIds) (t .certKinds) (t .certIds)) _
-          (good-certificates (t .key) (t .keyIds) (t .certKinds) (t .certIds) key)
-          (good-kept Key (λ n. member (kindOf n) (t .keyKinds)) (t .key) key) l
+          either name (certificates [] (t .key) (t .keyIds) (t .certKinds) (t .certIds)) (held (t .keyKinds) (t .key))
+          (good-certificates (t .key) (t .keyIds) (t .certKinds) (t .certIds) (v .key)) (good-held Key (t .keyKinds) (t .key) (v .key)) l
 
   key-number : (name : List ℕ) → listed name (keyList t) ≡ true
       → numberOf (pick (isCertificate name) Certificate Key) name ≡ some (keyNumber name)
@@ -93,13 +86,13 @@ module _ (t : Tables) (v : Valid t) where
   unfolding settled
   made-of kex key cipher mac compression isStrict x k c m z =
       let macNumber : numberOf Mac mac ≡ some (number Mac mac) =
-      ⊎-elim (λ l. numbered Mac mac (known Mac (t .mac) mac (good Mac (t .mac) (v .mac) .inTable) l)) (λ e. rw e none-number) m in
+      ⊎-elim (λ l. numbered Mac mac (known Mac (t .mac) mac (v .mac) l)) (λ e. rw e none-number) m in
       let compressionNumber =
-      numbered Compression compression (known Compression (t .compression) compression (good Compression (t .compression) (v .compression) .inTable) z) in
+      numbered Compression compression (known Compression (t .compression) compression (v .compression) z) in
       record {
         kexNumber = numbered Kex kex (kex-known kex x);
         keyNumber = key-number key k;
-        cipherNumber = numbered Cipher cipher (known Cipher (t .cipher) cipher (good Cipher (t .cipher) (v .cipher) .inTable) c);
+        cipherNumber = numbered Cipher cipher (known Cipher (t .cipher) cipher (v .cipher) c);
         clientMacNumber = macNumber;
         serverMacNumber = macNumber;
         clientCompressionNumber = compressionNumber;

@@ -1,7 +1,7 @@
 -- Pairs of ends, by computation: demand 3's hypotheses are met, two pairs accept different names, and each of 10 to 14 is
 -- a pair's answer. So neither one constant choice nor refusing everything meets the demand. Assumes nothing.
 use mathlib.Core.Path.{_≡_, refl}
-use mathlib.Core.Bool.{Bool, true, false, _&&_, _||_}
+use mathlib.Core.Bool.{Bool, true, false, not, _&&_, _||_}
 use mathlib.Core.List.{List, [], _∷_, map}
 use Prim.Native.Nat.{ℕ}
 use lib.ListN.{replicate}
@@ -11,14 +11,16 @@ use Rattle.put.specs.Written.{word as encoded}
 use Rattle.text.specs.Same.{same, ascii}
 use Rattle.text.specs.Utf8.{utf8, octets, next, rows as utf8Rows}
 use Rattle.wire.specs.Fields.{byte, word, run, string, end}
-use Rattle.wire.specs.Names.{cut, join, standing, judged, judgedList, nameList}
+use Rattle.wire.specs.Names.{cut, join, standing, judged, judgedList, nameList, every}
 use Rattle.names.specs.Tables.{namesOf, allNames, kexNames, keyNames, certificateNames, cipherNames, macNames, compressionNames, needMac}
 use Rattle.names.specs.Lookup.{placeFrom, numberOf}
+use Rattle.choice.specs.declared.Side.{Side}
 use Rattle.choice.specs.declared.Side.the-variants.{Client, Server}
-use Rattle.choice.specs.Choice.{listed, firstShared, bothFirst}
+use Rattle.choice.specs.Choice.{first, listed, firstShared, chosen, bothFirst}
 use Rattle.choice.specs.Rows.{rowSpelled}
-use Rattle.preferred.specs.Tables.{Tables, goodList, goodRows, agrees, consistent, rowsOf, valid}
-use Rattle.preferred.specs.Own.{member, kept, kexWritten, kexChosen, added, certificates, keyOf}
+use Rattle.preferred.specs.Tables.{Tables, tables, all, below, eachRow, goodList, goodLists, goodRows, goodTables, agrees, consistent, rowsOf, valid}
+use Rattle.preferred.specs.Defaults.{defaults}
+use Rattle.preferred.specs.Own.{member, kept, without, kexWritten, kexChosen, ofKind, held, added, certificates, keysOf}
 use Rattle.negotiation.specs.declared.Names.{Names}
 use Rattle.negotiation.specs.Written.{listField, kexInit}
 use Rattle.negotiation.specs.Read.{offer, number, needsMac, settleMac, strict, isCertificate, keyNumber, settled, readKex}
@@ -28,39 +30,14 @@ use Rattle.agreement.specs.Demand.{Ends}
 abbrev pub cookie : List ℕ
 cookie = replicate 16 7
 
--- a client with these kex, key, cipher, MAC and compression numbers
+-- a client with these kex, key, cipher, MAC and compression numbers, which takes Ed25519 certificates
 abbrev pub clientOf : List ℕ → List ℕ → List ℕ → List ℕ → List ℕ → Tables
-clientOf kex key cipher mac compression =
-    record {
-      side = Client;
-      kex = kex;
-      key = key;
-      certificate = 0 ∷ [];
-      cipher = cipher;
-      mac = mac;
-      compression = compression;
-      keyKinds = [];
-      keyIds = [];
-      certKinds = [];
-      certIds = [];
-    }
+clientOf kex key cipher mac compression = tables Client kex key (0 ∷ []) cipher mac compression [] [] [] []
 
 -- a server that holds an Ed25519 key with its certificate, and an RSA key
 abbrev pub serverOf : List ℕ → List ℕ → List ℕ → List ℕ → List ℕ → Tables
 serverOf kex key cipher mac compression =
-    record {
-      side = Server;
-      kex = kex;
-      key = key;
-      certificate = [];
-      cipher = cipher;
-      mac = mac;
-      compression = compression;
-      keyKinds = 0 ∷ 4 ∷ [];
-      keyIds = 1 ∷ 2 ∷ [];
-      certKinds = 0 ∷ [];
-      certIds = 1 ∷ [];
-    }
+    tables Server kex key [] cipher mac compression (0 ∷ 4 ∷ []) (1 ∷ 2 ∷ []) (0 ∷ []) (1 ∷ [])
 
 abbrev pub namesAre : ℕ → ℕ → ℕ → ℕ → Bool → Bool → Names
 namesAre kex key cipher mac certificate isStrict =
@@ -81,14 +58,16 @@ pub record Pair : Type 0 where
   pub server : Tables
   pub answer : Out Names
 
-abbrev pub Meets : List Pair → Type 0
-Meets [] = Unit {0}
-Meets (p ∷ ps) = Ends (p .client) (p .server) cookie cookie × Meets ps
-
 abbrev pub pairs : List Pair
 pairs =
-    -- the client's order decides, a certificate is chosen, and both are strict
+    -- the default tables, and a server with an Ed25519 key
     record {
+      client = defaults Client [] [] [] [];
+      server = defaults Server (0 ∷ []) (1 ∷ []) [] [];
+      answer = done (namesAre 0 0 10 1 false true);
+    }
+    -- the client's order decides, a certificate is chosen, and both are strict
+    ∷ record {
       client = clientOf (2 ∷ 1 ∷ 11 ∷ []) (4 ∷ 0 ∷ []) (2 ∷ 10 ∷ []) (4 ∷ 3 ∷ []) (0 ∷ []);
       server = serverOf (1 ∷ 2 ∷ 12 ∷ []) (0 ∷ 4 ∷ []) (10 ∷ 2 ∷ []) (3 ∷ 4 ∷ 0 ∷ []) (0 ∷ []);
       answer = done (namesAre 2 0 2 4 true true);
@@ -99,7 +78,7 @@ pairs =
       server = serverOf (1 ∷ 12 ∷ []) (4 ∷ 5 ∷ []) (10 ∷ []) (3 ∷ []) (0 ∷ []);
       answer = done (namesAre 1 5 10 0 false false);
     }
-    -- ext-info and strict names are no kex that can be shared
+    -- both prefer both ext-info names, and share no kex
     ∷ record {
       client = clientOf (1 ∷ 9 ∷ 10 ∷ []) (0 ∷ []) (2 ∷ []) (4 ∷ []) (0 ∷ []);
       server = serverOf (2 ∷ 9 ∷ 10 ∷ []) (0 ∷ []) (2 ∷ []) (4 ∷ []) (0 ∷ []);
@@ -128,49 +107,48 @@ pairs =
     }
     ∷ []
 
-meets : (client server : Tables) → client .side ≡ Client → server .side ≡ Server
-    → (valid client && valid server && (protecting client || protecting server)) ≡ true → Ends client server cookie cookie
-meets client server c s h =
+-- what demand 3 asks of two ends, as a test
+abbrev isClient : Side → Bool
+isClient Client = true
+isClient Server = false
+
+abbrev pub meets : Pair → Bool
+meets p =
+    isClient (p .client .side)
+    && not (isClient (p .server .side))
+    && valid (p .client)
+    && valid (p .server)
+    && (protecting (p .client) || protecting (p .server))
+
+pub meets-ends : (p : Pair) → meets p ≡ true → Ends (p .client) (p .server) cookie cookie
+meets-ends p h =
     record {
-      isClient = c;
-      isServer = s;
+      isClient = client (p .client .side) (search (and-left, and-right));
+      isServer = server (p .server .side) (search (and-left, and-right));
       clientValid = search (and-left, and-right);
       serverValid = search (and-left, and-right);
       clientCookie16 = refl;
       serverCookie16 = refl;
       oneProtects = search (and-left, and-right);
     }
+  where
+    client : (s : Side) → isClient s ≡ true → s ≡ Client
+    client Client e = refl
+    client Server e = cc
+
+    server : (s : Side) → not (isClient s) ≡ true → s ≡ Server
+    server Client e = cc
+    server Server e = refl
 
 -- opens every definition on the way from tables to bytes to names
 opened : Unit {0}
-unfolding readKex settled kexInit listField offer encoded word run string byte end cut join standing judged judgedList nameList utf8 octets next utf8Rows same ascii valid goodList goodRows agrees consistent rowsOf namesOf kexNames keyNames certificateNames cipherNames macNames compressionNames listed firstShared bothFirst rowSpelled allNames member kept kexWritten kexChosen added certificates keyOf number numberOf placeFrom needsMac settleMac needMac strict isCertificate keyNumber _>>=_
+unfolding readKex settled first chosen all below eachRow goodLists goodTables without ofKind held keysOf kexInit listField offer encoded word run string byte end cut join standing judged judgedList nameList utf8 octets next utf8Rows same ascii valid goodList goodRows agrees consistent rowsOf namesOf kexNames keyNames certificateNames cipherNames macNames compressionNames listed firstShared bothFirst rowSpelled allNames member kept kexWritten kexChosen added certificates number numberOf placeFrom needsMac settleMac needMac strict isCertificate keyNumber _>>=_
 opened = tt
 
 -- the pairs are such as demand 3 speaks of
-pub pairs-meet : Meets pairs
+pub pairs-meet : every meets pairs ≡ true
 unfolding opened protecting
-pairs-meet = (
-  meets _ _ refl refl refl,
-  (
-    meets _ _ refl refl refl,
-    (
-      meets _ _ refl refl refl,
-      (
-        meets _ _ refl refl refl,
-        (
-          meets _ _ refl refl refl,
-          (
-            meets _ _ refl refl refl,
-            (
-              meets _ _ refl refl refl,
-              tt,
-            ),
-          ),
-        ),
-      ),
-    ),
-  ),
-)
+pairs-meet = refl
 
 -- and these are their answers, through every byte that is written and read
 pub clients-read : map (λ (p : Pair). readKex (p .client) false (kexInit (p .server) cookie)) pairs ≡ map (λ (p : Pair). p .answer) pairs

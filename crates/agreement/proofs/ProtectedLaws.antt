@@ -17,13 +17,14 @@ use Rattle.names.specs.declared.Kind.the-variants.{Cipher, Mac}
 use Rattle.names.proofs.PlaceLaws.{each, each-at}
 use Rattle.choice.specs.Choice.{listed, chosen}
 use Rattle.preferred.specs.Tables.{Tables, valid}
+use Rattle.preferred.proofs.ValidLaws.{Valid, valid-parts}
 use Rattle.negotiation.specs.declared.Names.{Names}
 use Rattle.negotiation.specs.Written.{cipherList, macList}
 use Rattle.negotiation.specs.Read.{number, needsMac, hasIntegrity, noMac, settleMac, settled, readKex}
 use Rattle.agreement.specs.Protected.{protecting, Protected}
 use Rattle.agreement.proofs.WalkLaws.{Post, go-on, at-end, of-accepted, passed}
 use Rattle.agreement.proofs.SharedLaws.{chosen-own, settle-some}
-use Rattle.agreement.proofs.OwnLaws.{good, Valid, lists-good, known, known-number}
+use Rattle.agreement.proofs.NameLaws.{known, known-number}
 
 -- every cipher but `clear` and `none` needs a MAC or has built-in integrity
 abbrev sound : List ℕ → Bool
@@ -63,8 +64,8 @@ module _ (t : Tables) (safe : protecting t ≡ true) where
     -- so the cipher, if it has no integrity of its own, needs a MAC
     needs : hasIntegrity cipher ≡ false → needsMac cipher ≡ true
     needs i =
-        let c = known Cipher (t .cipher) cipher (good Cipher (t .cipher) (v .cipher) .inTable) own in
-        let s = rw (c .spelt) at (each-at sound (namesOf Cipher) ciphers-sound (c .place) (c .below)) in
+        let c = known Cipher (t .cipher) cipher (v .cipher) own in
+        let s = rw (c .spelt) at (each-at sound (namesOf Cipher) ciphers-sound (c .place) (c .inside)) in
         rw (
           listed-same cipher (bytes "clear") (cipherList t) own not-clear,
           listed-same cipher (bytes "none") (cipherList t) own not-none,
@@ -77,7 +78,7 @@ module _ (t : Tables) (safe : protecting t ≡ true) where
         → hasIntegrity cipher ≡ false → number Mac mac ≡ 0 → ⊥
     guarded mac peer s i z =
         let n = mac-needed cipher mac (chosen (t .side) (macList t) peer) s (needs i) in
-        let m = known Mac (t .mac) mac (good Mac (t .mac) (v .mac) .inTable) (chosen-own (t .side) (macList t) peer mac (n .0)) in
+        let m = known Mac (t .mac) mac (v .mac) (chosen-own (t .side) (macList t) peer mac (n .0)) in
         let e : getD (namesOf Mac) 0 [] ≡ mac = rw (sym (known-number Mac mac m) ∙ z) at (m .spelt) in
         same-differ mac noMac (n .1) (sym e ∙ first-mac)
 
@@ -108,7 +109,7 @@ module _ (t : Tables) (safe : protecting t ≡ true) where
       go-on _ _ (λ _ _.
       go-on _ _ (λ _ _.
       at-end (let own = chosen-own (t .side) (cipherList t) (ciphers .0) cipher (settle-some 12 _ cipher chose) in
-      let good = lists-good t (passed 9 (valid t) u v) in
+      let good = valid-parts t (passed 9 (valid t) u v) in
       record {
         clientToServer = λ u. guarded good cipher own clientMac (macs .0) chose-c (u .integrity) (u .none);
         serverToClient = λ u. guarded good cipher own serverMac (macs′ .0) chose-s (u .integrity) (u .none);

@@ -12,18 +12,16 @@ use Rattle.put.specs.Written.{word}
 use Rattle.text.specs.Utf8.{utf8, octets}
 use Rattle.wire.specs.Fields.{here}
 use Rattle.wire.proofs.BackLaws.{string-back, byte-back, word-back, end-back}
-use Rattle.names.specs.declared.Kind.the-variants.{Kex, Key, Certificate, Cipher, Mac, Compression}
 use Rattle.choice.specs.declared.Side.{Side}
 use Rattle.choice.specs.Choice.{chosen}
 use Rattle.choice.specs.Rows.{spelledRows}
 use Rattle.preferred.specs.Tables.{Tables, valid}
-use Rattle.preferred.specs.Own.{rows, kexWritten, kexChosen, keyRows}
+use Rattle.preferred.specs.Own.{kexChosen}
 use Rattle.negotiation.specs.Written.{kexList, keyList, cipherList, macList, compressionList, listField, kexInit}
 use Rattle.negotiation.specs.Read.{offer, mostPayload, strict, readKex}
 use Rattle.agreement.specs.Offers.{offers, asWritten}
 use Rattle.agreement.specs.Both.{Shared, settling}
-use Rattle.agreement.proofs.OwnLaws.{good, Valid, lists-good}
-use Rattle.agreement.proofs.FewLaws.{Few, few-rows, few-kex, few-key, field-few, offer-back, string-few}
+use Rattle.agreement.proofs.FewLaws.{field-few, offer-back, string-few, kexes, keys, ciphers, macs, compressions}
 
 -- a field that is read, and a step that two blocks share
 read : {A B : Type 0} {m : Out A} {a : A} (f : A → Out B) {y : Out B} → m ≡ done a → f a ≡ y → (m >>= f) ≡ y
@@ -50,29 +48,20 @@ fields t =
     ++ (word 0
     ++ (0 ∷ word 0))))))))))
 
-module _ (t : Tables) (v : Valid t) where
-  kexes : Few (kexWritten t)
-  kexes = few-kex t (good Kex (t .kex) (v .kex))
-
-  keys : Few (keyRows t)
-  keys = few-key (t .side) t (good Certificate (t .certificate) (v .certificate)) (good Key (t .key) (v .key))
-
-  ciphers : Few (rows Cipher (t .cipher))
-  ciphers = few-rows Cipher (t .cipher) (good Cipher (t .cipher) (v .cipher))
-
-  macs : Few (rows Mac (t .mac))
-  macs = few-rows Mac (t .mac) (good Mac (t .mac) (v .mac))
-
-  compressions : Few (rows Compression (t .compression))
-  compressions = few-rows Compression (t .compression) (good Compression (t .compression) (v .compression))
-
-  -- the whole of it is no longer than a reader takes
-  pub whole : (cookie : List ℕ) → length cookie ≡ 16 → (17 ≤ length (kexInit t cookie)) × (length (kexInit t cookie) ≤ mostPayload)
-  unfolding kexInit word
-  whole cookie k =
-      simp length-append
-      (omega
-      (arith, field-few _ kexes, field-few _ keys, field-few _ ciphers, field-few _ macs, field-few _ compressions))
+-- the whole of it is no longer than a reader takes
+pub whole : (t : Tables) → valid t ≡ true → (cookie : List ℕ) → length cookie ≡ 16
+    → (17 ≤ length (kexInit t cookie)) × (length (kexInit t cookie) ≤ mostPayload)
+unfolding kexInit word
+whole t v cookie k =
+    simp length-append
+    (omega (
+      arith,
+      field-few _ (kexes t v),
+      field-few _ (keys t v),
+      field-few _ (ciphers t v),
+      field-few _ (macs t v),
+      field-few _ (compressions t v),
+    ))
 
 start : (t : Tables) (cookie : List ℕ) → length cookie ≡ 16 → here (kexInit t cookie) 17 ≡ record { at = 17; left = fields t }
 unfolding kexInit
@@ -85,8 +74,7 @@ none-utf8 = refl
 -- the lists come back as they were written
 pub written-back : (t : Tables) (cookie : List ℕ) → valid t ≡ true → length cookie ≡ 16 → offers (kexInit t cookie) ≡ done (asWritten t)
 unfolding offers word
-written-back t cookie tv k =
-    let v = lists-good t tv in
+written-back t cookie v k =
     read _ (ap offer (start t cookie k) ∙ offer-back _ (kexes t v) _ _)
     (read _ (offer-back _ (keys t v) _ _)
     (read _ (offer-back _ (ciphers t v) _ _)
@@ -115,8 +103,7 @@ chosenAll side t u =
 pub reads : (t u : Tables) (b : Bool) (cookie : List ℕ) → valid t ≡ true → valid u ≡ true → length cookie ≡ 16
     → readKex t b (kexInit u cookie) ≡ settling (chosenAll (t .side) t u) (strict t b (kexList u))
 unfolding readKex settling word
-reads t u b cookie tv uv k =
-    let v = lists-good u uv in
+reads t u b cookie tv v k =
     let w = whole u v cookie k in
     read _ (ap (guard 9) tv)
     (read _ (ap (guard 1) (le-leb (length (kexInit u cookie)) mostPayload (w .1)))

@@ -1,11 +1,12 @@
 -- How two ends can end, in the words of demand 3.
 use mathlib.Core.Path.{_≡_}
-use mathlib.Core.Bool.{Bool, true, false}
+use mathlib.Core.Bool.{Bool, true, false, not}
 use mathlib.Core.List.{List, _∷_, _++_}
 use mathlib.Core.Option.{some}
 use Prim.Native.Nat.{ℕ, _<_}
 use Rattle.answer.specs.declared.Refusal.{Refusal}
 use Rattle.answer.specs.Answer.{Out, refused, done, pick}
+use Rattle.wire.specs.Names.{every}
 use Rattle.names.specs.Lookup.{numberOf}
 use Rattle.names.specs.declared.Kind.the-variants.{Kex, Key, Certificate, Cipher, Mac, Compression}
 use Rattle.choice.specs.Choice.{listed}
@@ -20,12 +21,12 @@ pub record First (client server : List (List ℕ)) (name : List ℕ) : Type 0 wh
   pub before : List (List ℕ)
   pub after : List (List ℕ)
   pub stands : client ≡ before ++ name ∷ after
-  pub notBefore : (c : List ℕ) → listed c before ≡ true → listed c server ≡ false
+  pub notBefore : every (λ c. not (listed c server)) before ≡ true
   pub lists : listed name server ≡ true
 
 -- "no shared name"
 abbrev pub NoneShared : List (List ℕ) → List (List ℕ) → Type 0
-NoneShared client server = (name : List ℕ) → listed name client ≡ true → listed name server ≡ false
+NoneShared client server = every (λ name. not (listed name server)) client ≡ true
 
 -- the MAC of a direction: a shared one, or `none` beside a cipher that needs none
 pub data MacOf (client server : List (List ℕ)) (cipher mac : List ℕ) : Type 0 where
