@@ -59,10 +59,10 @@ module _ (tc ts : Tables) (b : Bool) (c : tc .side ≡ Client) (s : ts .side ≡
       ∙ rw (strict-names .0, ← (strict-server ts gs s)) (ap (λ x. x || b) (and-comm (listed serverStrict (kexList ts)) (listed clientStrict (kexList tc))))
 
   -- each reads the other's, and both come to the one block over what they share
-  pub client-reads : (cookie : List ℕ) → length cookie ≡ 16 → readKex tc b (kexInit ts cookie) ≡ both tc ts b
+  pub agree : (clientCookie serverCookie : List ℕ) → length clientCookie ≡ 16 → length serverCookie ≡ 16
+      → (readKex tc b (kexInit ts serverCookie) ≡ both tc ts b) × (readKex ts b (kexInit tc clientCookie) ≡ both tc ts b)
   unfolding both
-  client-reads cookie k = reads tc ts b cookie cv sv k ∙ ap₂ settling client-choice client-strict
-
-  pub server-reads : (cookie : List ℕ) → length cookie ≡ 16 → readKex ts b (kexInit tc cookie) ≡ both tc ts b
-  unfolding both
-  server-reads cookie k = reads ts tc b cookie sv cv k ∙ ap₂ settling server-choice server-strict
+  agree clientCookie serverCookie k l = (
+    reads tc ts b serverCookie cv sv l ∙ ap₂ settling client-choice client-strict,
+    reads ts tc b clientCookie sv cv k ∙ ap₂ settling server-choice server-strict,
+  )

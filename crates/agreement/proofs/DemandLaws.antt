@@ -17,7 +17,7 @@ use Rattle.agreement.specs.Ended.{Accepted, Lacks, Ended, bothAccept, bo
 use Rattle.agreement.specs.Demand.{Ends, Agreed, Demand3}
 use Rattle.preferred.proofs.ValidLaws.{valid-parts}
 use Rattle.agreement.proofs.SharedLaws.{not-both-shared}
-use Rattle.agreement.proofs.AgreeLaws.{client-reads, server-reads}
+use Rattle.agreement.proofs.AgreeLaws.{agree}
 use Rattle.agreement.proofs.EndedLaws.{Came, came-done, came-refused, both-come, not-mac}
 use Rattle.agreement.proofs.ProtectedLaws.{never-unprotected}
 
@@ -47,20 +47,17 @@ module _ (tc ts : Tables) (kc ks : List ℕ) (e : Ends tc ts kc ks) (b : Bool) w
   come : Came tc ts b (both tc ts b)
   come = both-come tc ts b (valid-parts tc (e .clientValid)) (e .oneProtects)
 
-  at-client : readKex tc b (kexInit ts ks) ≡ both tc ts b
-  at-client = client-reads tc ts b (e .isClient) (e .isServer) (e .clientValid) (e .serverValid) ks (e .serverCookie16)
-
-  at-server : readKex ts b (kexInit tc kc) ≡ both tc ts b
-  at-server = server-reads tc ts b (e .isClient) (e .isServer) (e .clientValid) (e .serverValid) kc (e .clientCookie16)
+  one : (readKex tc b (kexInit ts ks) ≡ both tc ts b) × (readKex ts b (kexInit tc kc) ≡ both tc ts b)
+  one = agree tc ts b (e .isClient) (e .isServer) (e .clientValid) (e .serverValid) kc ks (e .clientCookie16) (e .serverCookie16)
 
   pub ended : Ended tc ts b (readKex tc b (kexInit ts ks)) (readKex ts b (kexInit tc kc))
-  ended = came-ended tc ts b come _ _ at-client at-server
+  ended = came-ended tc ts b come _ _ (one .0) (one .1)
 
   pub exactly-client : Refuses (readKex tc b (kexInit ts ks)) ↔ ((n : ℕ) × Lacks tc ts n)
-  exactly-client = rw at-client (came-exactly tc ts b come)
+  exactly-client = rw (one .0) (came-exactly tc ts b come)
 
   pub exactly-server : Refuses (readKex ts b (kexInit tc kc)) ↔ ((n : ℕ) × Lacks tc ts n)
-  exactly-server = rw at-server (came-exactly tc ts b come)
+  exactly-server = rw (one .1) (came-exactly tc ts b come)
 
   pub agreed : Agreed tc ts kc ks b
   agreed =

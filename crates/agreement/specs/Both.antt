@@ -31,15 +31,16 @@ settling s isStrict = do
   serverCompression ← settle 14 (s .compression)
   done (settled kex key cipher clientMac serverMac clientCompression serverCompression false isStrict)
 
--- "lists as written, extension names apart"
-abbrev pub extensionNames : List (List ℕ)
-extensionNames =
-    bytes "ext-info-c"
-    ∷ bytes "kex-strict-c-v00@openssh.com"
-    ∷ bytes "ext-info-s"
-    ∷ bytes "kex-strict-s-v00@openssh.com"
-    ∷ []
+abbrev pub clientStrict : List ℕ
+clientStrict = bytes "kex-strict-c-v00@openssh.com"
 
+abbrev pub serverStrict : List ℕ
+serverStrict = bytes "kex-strict-s-v00@openssh.com"
+
+abbrev pub extensionNames : List (List ℕ)
+extensionNames = bytes "ext-info-c" ∷ clientStrict ∷ bytes "ext-info-s" ∷ serverStrict ∷ []
+
+-- "lists as written, extension names apart"
 unfoldable pub apart : List (List ℕ) → List (List ℕ)
 apart [] = []
 apart (name ∷ names) = pick (listed name extensionNames) (apart names) (name ∷ apart names)
@@ -59,12 +60,6 @@ shared client server =
     }
 
 -- each lists its own strict name; or the strict-rekey flag, which both have
-abbrev pub clientStrict : List ℕ
-clientStrict = bytes "kex-strict-c-v00@openssh.com"
-
-abbrev pub serverStrict : List ℕ
-serverStrict = bytes "kex-strict-s-v00@openssh.com"
-
 abbrev pub bothStrict : Tables → Tables → Bool → Bool
 bothStrict client server rekey = (listed clientStrict (kexList client) && listed serverStrict (kexList server)) || rekey
 
