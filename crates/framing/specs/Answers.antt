@@ -5,7 +5,6 @@ use lib.ListN.{length}
 use Rattle.answer.specs.Answer.{Out, refused, done, _>>=_}
 use Rattle.put.specs.Written.{written}
 use Rattle.framing.specs.declared.Counters.{Counters}
-use Rattle.framing.specs.declared.Packet.{Packet}
 use Rattle.framing.specs.declared.GotPacket.{GotPacket}
 use Rattle.framing.specs.declared.GotPacket.the-variants.{Need, Whole, Refused as NoPacket}
 use Rattle.framing.specs.declared.Sealed.{Sealed}

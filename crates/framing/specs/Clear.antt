@@ -1,19 +1,22 @@
--- Clear packets (RFC 4253 section 6), as `read` and `write` of src/cipher/mod.rs and src/cipher/clear.rs make and take
+-- Clear packets (RFC 4253 section 6), as `read` and `write` of src/cipher/mod.rs and src/cipher/clear.rs take and make
 -- them: document 01, "Clear packets".
-use mathlib.Core.Bool.{Bool, true, false}
-use mathlib.Core.List.{List, [], _∷_, _++_}
+use mathlib.Core.List.{List, _∷_, _++_}
 use Prim.Native.Nat.{ℕ, _+_, _-_, _%_, min}
 use lib.Dec.{leb, ltb, eqb}
 use lib.ListN.{length, getD, replicate}
-use Rattle.answer.specs.Answer.{Out, refused, done, guard, pick, _>>=_}
+use Rattle.answer.specs.Answer.{Out, done, guard, pick, _>>=_}
 use Rattle.put.specs.Written.{word}
-use Rattle.wire.specs.Fields.{here, bigEndian}
+use Rattle.wire.specs.Fields.{bigEndian}
 use Rattle.framing.specs.declared.Counters.{Counters}
 use Rattle.framing.specs.declared.Packet.{Packet}
 
 -- MAXIMUM_PACKET_LEN of src/cipher/mod.rs
 abbrev pub mostLength : ℕ
 mostLength = 262177
+
+-- the largest byte count: 2^64 - 1
+abbrev pub mostBytes : ℕ
+mostBytes = 18446744073709551615
 
 -- "With n payload bytes, p = 8 minus (5 + n) mod 8, plus 8 if under 4."
 unfoldable pub paddingLength : ℕ → ℕ
@@ -22,6 +25,10 @@ paddingLength n = pick (ltb (8 - (5 + n) % 8) 4) (8 - (5 + n) % 8 + 8) (8 - (5 +
 -- "Packet length is 1 + n + p."
 abbrev pub packetLength : ℕ → ℕ
 packetLength n = 1 + n + paddingLength n
+
+-- "The largest payload is 262,167": a longer one is refused as every length over mostLength is (proofs/WriteLaws.antt).
+abbrev pub mostPayload : ℕ
+mostPayload = 262167
 
 -- Judging the length that a packet announces, or that is to be written.
 unfoldable pub judgedLength : ℕ → Out (Unit {0})
@@ -35,33 +42,38 @@ judgedPadding len padding = guard 7 (leb padding len)
 -- The counters of a direction after a packet with n payload bytes: the sequence number goes up by one, modulo 2^32; the
 -- byte count stops at its largest value.
 unfoldable pub counted : ℕ → Counters → Counters
-counted n k = record { seqn = (k .seqn + 1) % 4294967296; bytes = min (k .bytes + n) 18446744073709551615 }
+counted n k = record { seqn = (k .seqn + 1) % 4294967296; bytes = min (k .bytes + n) mostBytes }
 
--- The packet that is written of a payload: "4-byte packet length, 1-byte padding length, payload, zero padding".
+-- "4-byte packet length, 1-byte padding length, payload, zero padding"
+unfoldable pub frame : List ℕ → List ℕ
+frame payload =
+    word (packetLength (length payload))
+    ++ (paddingLength (length payload) ∷ payload)
+    ++ replicate (paddingLength (length payload)) 0
+
+-- The packet that is written of a payload.
 unfoldable pub packetOf : List ℕ → Out (List ℕ)
 packetOf payload = do
   _ ← judgedLength (packetLength (length payload))
-  done
-      (word (packetLength (length payload))
-      ++ (paddingLength (length payload) ∷ payload)
-      ++ replicate (paddingLength (length payload)) 0)
+  done (frame payload)
 
 -- What is read: more bytes are needed, so many in all, or the packet.
 pub data Read : Type 0 where
   need : ℕ → Read
   packet : Packet → Read
 
--- the length that a packet announces, and the padding: "the byte after the length, 0 if length is 0"
-abbrev pub announced : List ℕ → ℕ
+-- the length that a packet announces in its first four bytes
+unfoldable pub announced : List ℕ → ℕ
 announced s = bigEndian (getD s 0 0) (getD s 1 0) (getD s 2 0) (getD s 3 0)
 
-abbrev pub paddingOf : List ℕ → ℕ
-paddingOf s = pick (eqb (announced s) 0) 0 (getD s 4 0)
+-- the padding: "the byte after the length, 0 if length is 0"
+unfoldable pub paddingOf : List ℕ → ℕ → ℕ
+paddingOf s len = pick (eqb len 0) 0 (getD s 4 0)
 
 -- "End is length minus padding plus 4; payload length is length minus padding minus 1, not below 0; the payload is the
 -- bytes from 5 up to end, none if end is 4. Bytes taken: length + 4." So the payload starts at end minus its length.
-unfoldable pub taken : ℕ → ℕ → Counters → Packet
-taken len padding k =
+unfoldable pub packetAt : ℕ → ℕ → Counters → Packet
+packetAt len padding k =
     record {
       payload = record { start = len - padding + 4 - (len - padding - 1); len = len - padding - 1 };
       end = len - padding + 4;
@@ -69,11 +81,15 @@ taken len padding k =
       counters = counted (len - padding - 1) k;
     }
 
+-- a packet that is whole
+unfoldable pub opened : List ℕ → ℕ → Counters → Out Read
+opened s len k = do
+  _ ← judgedPadding len (paddingOf s len)
+  done (packet (packetAt len (paddingOf s len) k))
+
 -- "Under 4 bytes: the answer is "need 4". Then refusal 4. Then, under length + 4 bytes: "need length + 4"."
 unfoldable pub readPacket : List ℕ → Counters → Out Read
 readPacket s k =
     pick (ltb (length s) 4) (done (need 4)) (do
       _ ← judgedLength (announced s)
-      pick (ltb (length s) (announced s + 4)) (done (need (announced s + 4))) (do
-        _ ← judgedPadding (announced s) (paddingOf s)
-        done (packet (taken (announced s) (paddingOf s) k))))
+      pick (ltb (length s) (announced s + 4)) (done (need (announced s + 4))) (opened s (announced s) k))

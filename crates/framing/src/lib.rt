@@ -1,7 +1,23 @@
-// Clear packets (RFC 4253 section 6): `read` and `write` of src/cipher/mod.rs over a slice, with counters by value.
-
+// Clear packets (RFC 4253 section 6): `read` and `write` of src/cipher/mod.rs over lent slices, with counters by value.
+// The traits OpeningKey and SealingKey are the functions that src/cipher/clear.rs gives them.
+ghost use mathlib.Core.Path.{_≡_};
+ghost use Rattle.wire.specs.Answers.{checked};
+ghost use Rattle.framing.specs.Clear.{judgedLength, judgedPadding, counted};
 use answer::Refusal;
+use answer::refuse;
+use wire::answers::Checked;
 use wire::answers::Place;
+
+mod opening;
+mod sealing;
+
+pub use opening::payload;
+pub use opening::read;
+pub use sealing::padding_length;
+pub use sealing::write;
+
+// MAXIMUM_PACKET_LEN of src/cipher/mod.rs.
+const MAXIMUM_PACKET_LEN: usize = 262177;
 
 // What a direction counts: packets, modulo 2^32, and payload bytes.
 pub struct Counters {
@@ -26,4 +42,42 @@ pub enum GotPacket {
 pub enum Sealed {
     Total(usize, Counters),
     Refused(Refusal),
+}
+
+fn judge_length(len: usize) -> Checked
+    ensures { λ r. ⌜ checked r ≡ judgedLength len ⌝ }
+{
+    if MAXIMUM_PACKET_LEN < len {
+        return Checked::Refused(refuse(4));
+    }
+    Checked::Fine
+}
+
+fn judge_padding(len: usize, padding: usize) -> Checked
+    ensures { λ r. ⌜ checked r ≡ judgedPadding len padding ⌝ }
+{
+    if len < padding {
+        return Checked::Refused(refuse(7));
+    }
+    Checked::Fine
+}
+
+impl Counters {
+    // The Rust's writer adds payload bytes plainly; both directions stop at the largest count here, as its reader does.
+    fn count(self, n: usize) -> Counters
+        ensures { λ r. ⌜ r ≡ counted n self ⌝ }
+    {
+        let seqn = std::num::wrapping_add_u32(self.seqn, 1);
+        let more = n as u64;
+        if u64::MAX - self.bytes < more {
+            return Counters {
+                seqn,
+                bytes: u64::MAX,
+            };
+        }
+        Counters {
+            seqn,
+            bytes: self.bytes + more,
+        }
+    }
 }

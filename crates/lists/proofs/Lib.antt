@@ -1,1 +1,4 @@
 pub mod WalkLaws
+pub mod StoreLaws
+pub mod ListLaws
+pub mod TableLaws

@@ -1,7 +1,7 @@
 -- The name-list that is written of a list of numbers (RFC 4251 section 5).
 use mathlib.Core.List.{List, [], _∷_}
 use Prim.Native.Nat.{ℕ}
-use Rattle.answer.specs.Answer.{Out, refused, done, _>>=_}
+use Rattle.answer.specs.Answer.{Out, done, _>>=_}
 use Rattle.put.specs.Written.{string}
 use Rattle.wire.specs.Names.{join}
 use Rattle.names.specs.Tables.{allNames}

@@ -1,6 +1,6 @@
 -- What the private functions promise: a list is judged, then measured, then written.
 use mathlib.Core.Bool.{Bool, true, _&&_}
-use mathlib.Core.List.{List, [], _∷_, map}
+use mathlib.Core.List.{List, [], _∷_, _++_, map}
 use Prim.Native.Nat.{ℕ, _+_, min}
 use lib.ListN.{length}
 use Rattle.answer.specs.Answer.{Out, refused, done}
@@ -16,6 +16,10 @@ module _ (name : ℕ → Out (List ℕ)) where
   -- the names; a number that has none counts as empty
   unfoldable pub texts : List ℕ → List (List ℕ)
   texts ns = map (λ n. bytesOf (name n)) ns
+
+-- a name and the comma after it
+unfoldable pub part : Out (List ℕ) → List ℕ
+part name = bytesOf name ++ 44 ∷ []
 
 -- One more than the longest list with a comma after each name. Counting stops here, so that no sum wraps.
 abbrev pub most : ℕ

@@ -1,18 +1,16 @@
 -- Names laid out in columns: spellings one after the other, where each starts, how long each is. Row n of the columns of
 -- any list of names spells name n, and the first row of a part of them is the first place in that part.
 -- Assumes nothing.
-use mathlib.Core.Path.{_≡_, refl, sym, ap, _∙_}
-use mathlib.Core.Bool.{Bool, true, false}
+use mathlib.Core.Path.{_≡_, refl}
 use mathlib.Core.List.{List, [], _∷_, _++_, map, append-assoc}
 use Prim.Native.Nat.{ℕ, zero, suc, _+_, _≤_, _<_}
-use native.Mathlib.Nat.{zero-add, add-zero, add-suc, suc-add}
 use native.Mathlib.Numerals.{add-one}
 use native.Mathlib.Omega.{arith}
-use lib.Dec.{ltb, leb, leb·suc-suc, leb·suc-zero, leb·zero}
-use lib.ListN.{length, getD, take, drop, length-append}
+use lib.Dec.{leb·suc-suc, leb·suc-zero, leb·zero}
+use lib.ListN.{length, take, drop, length-append}
 use lib.Seq.{take-append-seam, drop-append-seam, drop-cons}
 use borrow.Author.Tests.{le-leb}
-use Rattle.answer.specs.Answer.{Out, refused, done, guard, refuse, _>>=_}
+use Rattle.answer.specs.Answer.{done, refuse, _>>=_}
 use Rattle.names.specs.Spelled.{entry, nameAt, rowName}
 use Rattle.names.specs.Lookup.{placeFrom, rowFrom}
 use Rattle.names.proofs.RowLaws.{entry-in}

@@ -1,6 +1,8 @@
+pub mod WriterLaws
 pub mod RowLaws
 pub mod ColumnLaws
 pub mod PlaceLaws
 pub mod TableLaws
 pub mod LookupLaws
 pub mod SpellLaws
+pub mod UniqueLaws

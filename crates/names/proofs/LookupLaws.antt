@@ -1,12 +1,13 @@
 -- The look-up over the rows of a kind is the look-up among its names. Assumes nothing.
 use mathlib.Core.Path.{_≡_, refl, sym, ap, _∙_}
-use mathlib.Core.List.{List}
+use mathlib.Core.List.{List, _++_}
 use mathlib.Core.Option.{Option, some, none}
 use Prim.Native.Nat.{ℕ, _+_, _-_, _≤_, _<_}
 use native.Mathlib.Omega.{arith}
-use lib.ListN.{length, take, drop}
+use lib.Dec.{lit≤}
+use lib.ListN.{length}
 use Rattle.names.specs.declared.Kind.{Kind}
-use Rattle.names.specs.Tables.{namesOf, allNames, firstRow}
+use Rattle.names.specs.Tables.{namesOf, allNames, firstRow, kexNames, keyNames, certificateNames, cipherNames, macNames, compressionNames}
 use Rattle.names.specs.declared.Row.{Row}
 use Rattle.names.specs.declared.Row.the-variants.{At, Nowhere}
 use Rattle.names.specs.Lookup.{numberOf, placeFrom, rowFrom, onward, row}
@@ -14,9 +15,17 @@ use Rattle.names.proofs.ColumnLaws.{flat, starts, lengths, row-place}
 use Rattle.names.proofs.PlaceLaws.{place-from}
 use Rattle.names.proofs.TableLaws.{kind-part, kind-rows, row-count, number-found}
 
+-- the one table's columns, and the first of n of its rows from i on that spells a name
+abbrev pub tableFrom : List ℕ → ℕ → ℕ → Option ℕ
+tableFrom name i n = rowFrom (flat allNames) (starts 0 allNames) (lengths allNames) name i n
+
+-- the rows of keys and certificates together
+pub hostKey-row : (name : List ℕ) → tableFrom name 13 14 ≡ placeFrom 13 name (keyNames ++ certificateNames)
+unfolding allNames kexNames keyNames certificateNames cipherNames macNames compressionNames
+hostKey-row name = row-place allNames name 14 13 (lit≤ tt)
+
 pub kind-row : (k : Kind) (name : List ℕ) (from count : ℕ) → from ≡ firstRow k → count ≡ length (namesOf k)
-    → rowFrom (flat allNames) (starts 0 allNames) (lengths allNames) name from (from + count - from)
-    ≡ onward (firstRow k) (numberOf k name)
+    → tableFrom name from (from + count - from) ≡ onward (firstRow k) (numberOf k name)
 unfolding numberOf
 kind-row k name from count p q =
     let e : from + count - from ≡ count = omega arith in

@@ -1,48 +1,43 @@
--- Tests over a list of names, what each says at every place, and the first place of a name.
+-- Tests over a list of names, what every says at every place, and the first place of a name.
 -- Assumes nothing.
-use mathlib.Core.Path.{_≡_, refl, sym, ap, _∙_}
+use mathlib.Core.Path.{_≡_, refl}
 use mathlib.Core.Bool.{Bool, true, false, not, _&&_}
 use mathlib.Core.List.{List, [], _∷_, _++_}
-use mathlib.Core.Option.{Option, some, none}
+use mathlib.Core.Option.{some}
 use Prim.Native.Nat.{ℕ, zero, suc, _+_, _-_, _≤_, _<_}
-use native.Mathlib.Nat.{le-of-suc-le-suc, add-zero, add-suc}
-use native.Mathlib.Numerals.{add-one}
+use native.Mathlib.Nat.{le-of-suc-le-suc, add-zero}
 use native.Mathlib.Omega.{arith}
 use lib.ListN.{length, getD}
-use Rattle.answer.specs.Answer.{pick}
-use Rattle.answer.proofs.Laws.{split}
+use Rattle.answer.proofs.Laws.{split, and-left, and-right}
 use Rattle.text.specs.Same.{same}
-use Rattle.text.proofs.SameLaws.{and-left, and-right, same-self, same-equal}
+use Rattle.text.proofs.SameLaws.{same-self, same-equal}
+use Rattle.wire.specs.Names.{every}
 use Rattle.names.specs.Lookup.{placeFrom, onward}
 
--- the test holds of every name
-abbrev pub each : (List ℕ → Bool) → List (List ℕ) → Bool
-each f [] = true
-each f (x ∷ xs) = f x && each f xs
-
-pub each-at : (f : List ℕ → Bool) (xs : List (List ℕ)) → each f xs ≡ true → (n : ℕ) → n < length xs → f (getD xs n []) ≡ true
-each-at f [] h n l = absurd (omega arith)
-each-at f (x ∷ xs) h zero l = and-left (f x) (each f xs) h
-each-at f (x ∷ xs) h (suc n) l = each-at f xs (and-right (f x) (each f xs) h) n (le-of-suc-le-suc l)
+-- a test that holds of every name holds at each place
+pub every-at : (f : List ℕ → Bool) (xs : List (List ℕ)) → every f xs ≡ true → (n : ℕ) → n < length xs → f (getD xs n []) ≡ true
+every-at f [] h n l = absurd (omega arith)
+every-at f (x ∷ xs) h zero l = and-left (f x) (every f xs) h
+every-at f (x ∷ xs) h (suc n) l = every-at f xs (and-right (f x) (every f xs) h) n (le-of-suc-le-suc l)
 
 -- no name stands twice
 abbrev pub distinct : List (List ℕ) → Bool
 distinct [] = true
-distinct (x ∷ xs) = each (λ y. not (same x y)) xs && distinct xs
+distinct (x ∷ xs) = every (λ y. not (same x y)) xs && distinct xs
 
-pub each-front : (f : List ℕ → Bool) (xs ys : List (List ℕ)) → each f (xs ++ ys) ≡ true → each f xs ≡ true
-each-front f [] ys h = refl
-each-front f (x ∷ xs) ys h = rw (and-left (f x) (each f (xs ++ ys)) h) (each-front f xs ys (and-right (f x) (each f (xs ++ ys)) h))
+pub every-front : (f : List ℕ → Bool) (xs ys : List (List ℕ)) → every f (xs ++ ys) ≡ true → every f xs ≡ true
+every-front f [] ys h = refl
+every-front f (x ∷ xs) ys h = rw (and-left (f x) (every f (xs ++ ys)) h) (every-front f xs ys (and-right (f x) (every f (xs ++ ys)) h))
 
 pub distinct-front : (xs ys : List (List ℕ)) → distinct (xs ++ ys) ≡ true → distinct xs ≡ true
 distinct-front [] ys h = refl
 distinct-front (x ∷ xs) ys h =
-    rw (each-front (λ y. not (same x y)) xs ys (and-left (each (λ y. not (same x y)) (xs ++ ys)) (distinct (xs ++ ys)) h))
-    (distinct-front xs ys (and-right (each (λ y. not (same x y)) (xs ++ ys)) (distinct (xs ++ ys)) h))
+    rw (every-front (λ y. not (same x y)) xs ys (and-left (every (λ y. not (same x y)) (xs ++ ys)) (distinct (xs ++ ys)) h))
+    (distinct-front xs ys (and-right (every (λ y. not (same x y)) (xs ++ ys)) (distinct (xs ++ ys)) h))
 
 pub distinct-back : (xs ys : List (List ℕ)) → distinct (xs ++ ys) ≡ true → distinct ys ≡ true
 distinct-back [] ys h = h
-distinct-back (x ∷ xs) ys h = distinct-back xs ys (and-right (each (λ y. not (same x y)) (xs ++ ys)) (distinct (xs ++ ys)) h)
+distinct-back (x ∷ xs) ys h = distinct-back xs ys (and-right (every (λ y. not (same x y)) (xs ++ ys)) (distinct (xs ++ ys)) h)
 
 not-true : (b : Bool) → not b ≡ true → b ≡ false
 not-true true h = cc
@@ -54,10 +49,10 @@ unfolding placeFrom
 place-back [] h i n l = absurd (omega arith)
 place-back (x ∷ xs) h i zero l = rw (same-self x, add-zero i)
 place-back (x ∷ xs) h i (suc n) l =
-    let others = and-left (each (λ y. not (same x y)) xs) (distinct xs) h in
-    let other = not-true (same x (getD xs n [])) (each-at (λ y. not (same x y)) xs others n (le-of-suc-le-suc l)) in
+    let others = and-left (every (λ y. not (same x y)) xs) (distinct xs) h in
+    let other = not-true (same x (getD xs n [])) (every-at (λ y. not (same x y)) xs others n (le-of-suc-le-suc l)) in
     let e : (i + 1) + n ≡ i + suc n = omega arith in
-    rw (other, place-back xs (and-right (each (λ y. not (same x y)) xs) (distinct xs) h) (i + 1) n (le-of-suc-le-suc l), e)
+    rw (other, place-back xs (and-right (every (λ y. not (same x y)) xs) (distinct xs) h) (i + 1) n (le-of-suc-le-suc l), e)
 
 -- what is found stands there
 pub record Stands (name : List ℕ) (xs : List (List ℕ)) (i m : ℕ) : Type 0 where

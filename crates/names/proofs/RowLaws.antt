@@ -2,16 +2,16 @@
 -- Assumes nothing.
 use mathlib.Core.Path.{_≡_, refl, sym, ap, _∙_}
 use mathlib.Core.Bool.{Bool, true, false, false≢true}
-use mathlib.Core.List.{List, [], _∷_}
+use mathlib.Core.List.{List, []}
 use mathlib.Core.Logic.{_⊎_, inl, inr, ⊎-elim}
 use mathlib.Core.Option.{Option, some, none}
-use Prim.Native.Nat.{ℕ, zero, suc, _+_, _-_, _≤_, _<_}
+use Prim.Native.Nat.{ℕ, suc, _+_, _-_, _≤_, _<_}
 use native.Mathlib.Omega.{arith}
 use lib.Dec.{ltb, leb}
 use lib.ListN.{length, getD, take, drop}
 use borrow.Author.Tests.{lt-ltb, le-ltb, ltb-true, ltb-false, leb-true}
 use Rattle.answer.specs.declared.Refusal.{Refusal}
-use Rattle.answer.specs.Answer.{Out, refused, done, guard, refuse, _>>=_, pick}
+use Rattle.answer.specs.Answer.{Out, refused, done, guard, refuse, _>>=_}
 use Rattle.answer.proofs.Laws.{split, pass, stop}
 use Rattle.put.specs.Written.{written, buffer}
 use Rattle.wire.specs.Shown.{bytesOf}
@@ -35,7 +35,7 @@ module _ {A : Type 0} (d : A) (xs : List A) (n : ℕ) where
   column-out m r e p h = rw p (sym (entry-out (rw e at h)))
 
 -- a name that is there, and one that is not
-shown : (w : Out (List ℕ)) → there w ≡ true → w ≡ done (bytesOf w)
+pub shown : (w : Out (List ℕ)) → there w ≡ true → w ≡ done (bytesOf w)
 shown (refused r) h = absurd (false≢true h)
 shown (done x) h = refl
 
@@ -96,14 +96,17 @@ module _ (spellings starts lengths : List ℕ) (n : ℕ) where
       → leb (a + b) (length spellings) ≡ there (rowName spellings starts lengths n)
   ends-inside a b p q g h = rw (in-both g h, p, q) (there-guard ends)
 
+  -- a row outside is refused with 9
+  pub row-outside : there (rowName spellings starts lengths n) ≡ false → rowName spellings starts lengths n ≡ refuse 9
+  row-outside h = ⊎-elim (λ o. o) (λ i. absurd (false≢true (sym h ∙ ap there (i .name)))) row-either
+
   module _ (b : Bool) (tested : b ≡ there (rowName spellings starts lengths n)) where
     at-inside : b ≡ true → Inside
     at-inside h =
         ⊎-elim (λ o. absurd (false≢true (ap there (sym o) ∙ sym tested ∙ h))) (λ i. i) row-either
 
     at-outside : b ≡ false → rowName spellings starts lengths n ≡ refuse 9
-    at-outside h =
-        ⊎-elim (λ o. o) (λ i. absurd (false≢true (sym h ∙ tested ∙ ap there (i .name)))) row-either
+    at-outside h = row-outside (sym tested ∙ h)
 
     pub inside-starts : b ≡ true → n < length starts
     inside-starts h = at-inside h .start

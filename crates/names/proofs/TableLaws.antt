@@ -1,37 +1,32 @@
 -- The tables of document 01: one computed test over all of them, and what it says at every number.
 -- Assumes nothing.
 use mathlib.Core.Path.{_≡_, refl, sym, ap, _∙_}
-use mathlib.Core.Bool.{Bool, true, false, not, _&&_}
+use mathlib.Core.Bool.{Bool, true, _&&_}
 use mathlib.Core.List.{List, [], _∷_, _++_, map}
-use mathlib.Core.Option.{Option, some, none}
-use Prim.Native.Nat.{ℕ, zero, suc, _+_, _-_, _≤_, _<_}
+use mathlib.Core.Option.{some}
+use Prim.Native.Nat.{ℕ, zero, suc, _+_, _≤_, _<_}
 use native.Mathlib.Nat.{zero-add, sub-zero, le-of-suc-le-suc}
 use native.Mathlib.Omega.{arith}
-use lib.Dec.{leb, eqb, lit≤}
+use lib.Dec.{leb, lit≤}
 use lib.ListN.{length, getD, take, drop}
 use lib.Seq.{getD-take, getD-drop}
 use borrow.Author.Tests.{leb-true}
-use Rattle.answer.specs.Answer.{pick}
-use Rattle.answer.proofs.Laws.{split}
+use Rattle.answer.proofs.Laws.{and-left, and-right}
 use Rattle.text.specs.Same.{same, ascii}
-use Rattle.wire.specs.Names.{empty}
+use Rattle.wire.specs.Names.{every, nameable}
 use Rattle.names.specs.declared.Kind.{Kind}
 use Rattle.names.specs.declared.Kind.the-variants.{Kex, Key, Certificate, Cipher, Mac, Compression}
-use Rattle.names.specs.Tables.{bytes, kexNames, keyNames, certificateNames, cipherNames, macNames, compressionNames, namesOf, allNames, firstRow, needMac, builtIn}
-use Rattle.names.specs.Lookup.{numberOf, placeFrom}
-use Rattle.names.proofs.PlaceLaws.{each, each-at, distinct, distinct-front, distinct-back, place-back, place-found}
-
-abbrev pub commaFree : List ℕ → Bool
-commaFree [] = true
-commaFree (b ∷ s) = not (eqb b 44) && commaFree s
+use Rattle.names.specs.Tables.{bytes, kexNames, keyNames, certificateNames, cipherNames, macNames, compressionNames, namesOf, allNames, firstRow}
+use Rattle.names.specs.Lookup.{numberOf}
+use Rattle.names.proofs.PlaceLaws.{every-at, distinct, distinct-front, distinct-back, place-back, place-found}
 
 -- fit to stand in a name-list and in a row
 abbrev pub plain : List ℕ → Bool
-plain name = not (empty name) && ascii name && commaFree name && leb (length name) 255
+plain name = nameable name && leb (length name) 255
 
 -- Everything that is computed of the tables. Key and certificate names stand in one list, so they are distinct together.
 pub record Right : Type 0 where
-  pub rows : each plain allNames ≡ true
+  pub rows : every plain allNames ≡ true
   pub kex : distinct kexNames ≡ true
   pub hostKeys : distinct (keyNames ++ certificateNames) ≡ true
   pub ciphers : distinct cipherNames ≡ true
@@ -51,9 +46,16 @@ distinct-kind Cipher = tables-right .ciphers
 distinct-kind Mac = tables-right .macs
 distinct-kind Compression = tables-right .compressions
 
--- every name of the table is non-empty US-ASCII without a comma, and at most 255 bytes long
-pub plain-at : (n : ℕ) → n < length allNames → plain (getD allNames n []) ≡ true
-plain-at n h = each-at plain allNames (tables-right .rows) n h
+-- every name of the table is non-empty US-ASCII without a comma,
+pub name-nameable : (n : ℕ) → n < length allNames → nameable (getD allNames n []) ≡ true
+name-nameable n h =
+    and-left (nameable (getD allNames n [])) (leb (length (getD allNames n [])) 255) (every-at plain allNames (tables-right .rows) n h)
+
+-- and at most 255 bytes long
+pub name-short : (n : ℕ) → n < length allNames → length (getD allNames n []) ≤ 255
+name-short n h =
+    leb-true (length (getD allNames n [])) 255
+    (and-right (nameable (getD allNames n [])) (leb (length (getD allNames n [])) 255) (every-at plain allNames (tables-right .rows) n h))
 
 -- the names of a kind are its part of the one table
 pub kind-part : (k : Kind) → take (length (namesOf k)) (drop (firstRow k) allNames) ≡ namesOf k

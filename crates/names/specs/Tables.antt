@@ -60,15 +60,15 @@ cipherNames =
     ∷ bytes "chacha20-poly1305@openssh.com"
     ∷ []
 
--- a word stands in a name: at its start, or further on
-abbrev pub starts : List ℕ → List ℕ → Bool
-starts [] s = true
-starts (a ∷ w) [] = false
-starts (a ∷ w) (b ∷ s) = eqb a b && starts w s
+-- a word stands in a name: at its very start, or further on
+abbrev pub opens : List ℕ → List ℕ → Bool
+opens [] s = true
+opens (a ∷ w) [] = false
+opens (a ∷ w) (b ∷ s) = eqb a b && opens w s
 
 abbrev pub has : List ℕ → List ℕ → Bool
-has w [] = starts w []
-has w (b ∷ s) = starts w (b ∷ s) || has w s
+has w [] = opens w []
+has w (b ∷ s) = opens w (b ∷ s) || has w s
 
 -- "The ctr and cbc names need a MAC; the others do not, and of those gcm and chacha20 have built-in integrity."
 unfoldable pub needMac : List Bool

@@ -18,6 +18,9 @@ pub use rows::spelling;
 pub use rows::wide;
 pub use spell::put_name;
 
+// "A local number outside its table" is refused with this number of document 01.
+pub const OUTSIDE: u8 = 9;
+
 // "Each kind of number has a type of its own, so a MAC number can't be used as a cipher number."
 pub struct KexId(pub u8);
 

@@ -1,13 +1,14 @@
 // Rows of three columns: spellings, where each row starts in them, and how long it is. Every function is total over any
 // three slices, so what lends the constants of `tables` may stand far above, once for many look-ups.
+ghost use mathlib.Core.Bool.{false};
 ghost use mathlib.Core.Path.{_≡_};
 ghost use Prim.Native.Nat.{_-_, _≤_};
-ghost use Rattle.wire.specs.Shown.{bytesOf};
-ghost use mathlib.Core.Bool.{false};
-ghost use Rattle.names.specs.Spelled.{rowName, there, entry, flag};
 ghost use Rattle.put.specs.Written.{written, buffer, put};
+ghost use Rattle.wire.specs.Shown.{bytesOf};
+ghost use Rattle.names.specs.Spelled.{rowName, there, entry, flag};
 ghost use Rattle.names.specs.Lookup.{rowFrom, is, row};
 use super::Flag;
+use super::OUTSIDE;
 use super::Row;
 use answer::refuse;
 use put::Put;
@@ -101,7 +102,7 @@ pub fn put_row(
     if inside(spellings, starts, lengths, row) {
         return put::put_bytes(out, at, spelling(spellings, starts, lengths, row));
     }
-    Put::Refused(refuse(9))
+    Put::Refused(refuse(OUTSIDE))
 }
 
 // What a column of bools says at a number.
@@ -112,6 +113,6 @@ pub fn flag_at(column: &[bool], number: u8) -> Flag
     if n < column.len() {
         Flag::Is(column[n])
     } else {
-        Flag::Refused(refuse(9))
+        Flag::Refused(refuse(OUTSIDE))
     }
 }

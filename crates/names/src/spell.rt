@@ -9,6 +9,7 @@ use super::KexId;
 use super::KeyId;
 use super::Kind;
 use super::MacId;
+use super::OUTSIDE;
 use super::rows;
 use super::tables;
 use answer::refuse;
@@ -20,7 +21,7 @@ pub fn put_name(kind: Kind, number: u8, out: &mut [u8], at: usize) -> Put
 {
     let n = rows::wide(number);
     if kind.count() <= n {
-        return Put::Refused(refuse(9));
+        return Put::Refused(refuse(OUTSIDE));
     }
     let row = kind.first_row() + n;
     rows::put_row(

@@ -143,30 +143,30 @@ pub const LENGTHS: [u8; 44] = [
 
 // By a cipher's number: it needs a MAC.
 pub const NEEDS_MAC: [bool; 11] = [
-    false,
-    false,
-    true,
-    true,
-    true,
-    false,
-    false,
-    true,
-    true,
-    true,
-    false,
+    false, // clear
+    false, // none
+    true, // aes128-ctr
+    true, // aes192-ctr
+    true, // aes256-ctr
+    false, // aes128-gcm@openssh.com
+    false, // aes256-gcm@openssh.com
+    true, // aes128-cbc
+    true, // aes192-cbc
+    true, // aes256-cbc
+    false, // chacha20-poly1305@openssh.com
 ];
 
 // By a cipher's number: it has built-in integrity.
 pub const BUILT_IN: [bool; 11] = [
-    false,
-    false,
-    false,
-    false,
-    false,
-    true,
-    true,
-    false,
-    false,
-    false,
-    true,
+    false, // clear
+    false, // none
+    false, // aes128-ctr
+    false, // aes192-ctr
+    false, // aes256-ctr
+    true, // aes128-gcm@openssh.com
+    true, // aes256-gcm@openssh.com
+    false, // aes128-cbc
+    false, // aes192-cbc
+    false, // aes256-cbc
+    true, // chacha20-poly1305@openssh.com
 ];

@@ -1,1 +1,3 @@
 pub mod PickLaws
+pub mod StepLaws
+pub mod RecordLaws

@@ -56,12 +56,16 @@ module _ (spells : ℕ → List ℕ → Bool) where
 unfoldable pub macRule : ℕ → Rule
 macRule r = pick (leb 29 r && leb r 31 || leb 34 r && leb r 36) Protected Optional
 
+-- a key's number: certificate rows start at 20, key rows at 13
+unfoldable pub keyPlace : ℕ → ℕ
+keyPlace r = pick (leb 20 r) (r - 20) (r - 13)
+
 -- the record of the rows: typed numbers, by place in the kind
 unfoldable pub recorded : Rows → Bool → Names
 recorded k follows =
     record {
       kex = record { 0 = k .kex };
-      key = record { 0 = pick (leb 20 (k .key)) (k .key - 20) (k .key - 13) };
+      key = record { 0 = keyPlace (k .key) };
       cipher = record { 0 = k .cipher - 27 };
       «client_mac» = record { 0 = k .«client_mac» - 38 };
       «server_mac» = record { 0 = k .«server_mac» - 38 };
@@ -104,12 +108,11 @@ module _ (spells : ℕ → List ℕ → Bool) (side : Side) where
       })
       c₂
 
-  -- cipher server-to-client string, then the MAC lists
+  -- the MAC lists, under the cipher's rule
   unfoldable pub macs : List ℕ → List ℕ → Rows → At → Out Names
   macs own compression k c = do
-    (_, c₁) ← string c
-    (a, _, c₂) ← picked spells side (macRule (k .cipher)) 13 own c₁
-    (b, _, c₃) ← picked spells side (macRule (k .cipher)) 13 own c₂
+    (a, _, c₁) ← picked spells side (macRule (k .cipher)) 13 own c
+    (b, _, c₂) ← picked spells side (macRule (k .cipher)) 13 own c₁
     compressions compression
       (record {
         kex = k .kex;
@@ -122,14 +125,20 @@ module _ (spells : ℕ → List ℕ → Bool) (side : Side) where
         guessed = k .guessed;
         strict = k .strict
       })
-      c₃
+      c₂
+
+  -- cipher server-to-client string: decoded, not used
+  unfoldable pub otherCipher : List ℕ → List ℕ → Rows → At → Out Names
+  otherCipher mac compression k c = do
+    (_, c₁) ← string c
+    macs mac compression k c₁
 
   -- the key and cipher lists, after the kex row, whether it was both first, and whether the exchange is strict
   unfoldable pub keys : List ℕ → List ℕ → List ℕ → List ℕ → ℕ → Bool → Bool → At → Out Names
   keys key cipher mac compression kex first isStrict c = do
     (a, f, c₁) ← picked spells side Needed 11 key c
     (b, _, c₂) ← picked spells side Needed 12 cipher c₁
-    macs mac compression
+    otherCipher mac compression
       (record {
         kex = kex;
         key = a;

@@ -1,4 +1,18 @@
 // Reading a KEXINIT stage by stage, fields and choices alternating as in `read_kex` of the Rust.
+ghost use mathlib.Core.Path.{_≡_};
+ghost use mathlib.Core.Bool.{not};
+ghost use Prim.Native.Nat.{_-_};
+ghost use lib.Dec.{eqb};
+ghost use Rattle.wire.specs.Fields.{here};
+ghost use Rattle.choice.specs.Rows.{spellsIn};
+ghost use Rattle.negotiation.specs.Read.{gotNames};
+ghost use Rattle.negotiation.specs.Stages.{keyPlace, recorded, lastFields, languages, compressions, macs, otherCipher, keys, lists};
+
+use choice::Side;
+use names::{CipherId, CompressionId, KexId, KeyId, MacId};
+use wire::answers::{Checked, Cursor, GotByte, GotText, GotWord};
+use crate::pick::{Picked, Rule, mac_rule, pick_name, stands_in};
+use crate::{Flags, GotNames, Names};
 
 // The rows that were chosen so far, and the flags. `guessed`: kex and key are both first.
 pub struct Rows {
@@ -11,4 +25,233 @@ pub struct Rows {
     pub server_compression: u8,
     pub guessed: bool,
     pub strict: bool,
+}
+
+// A row's place in its kind.
+fn less(row: u8, first: u8) -> u8
+    ensures { λ r. ⌜ r ≡ row - first ⌝ }
+{
+    if row < first { 0 } else { row - first }
+}
+
+fn key_number(row: u8) -> u8
+    ensures { λ r. ⌜ r ≡ keyPlace row ⌝ }
+{
+    if 20 <= row {
+        return less(row, 20);
+    }
+    less(row, 13)
+}
+
+fn record(k: Rows, follows: bool) -> Names
+    ensures { λ r. ⌜ r ≡ recorded k follows ⌝ }
+{
+    let flags = Flags {
+        host_key_is_certificate: 20 <= k.key,
+        ignore_guessed: follows & !k.guessed,
+        strict_kex: k.strict,
+    };
+    Names {
+        kex: KexId(k.kex),
+        key: KeyId(key_number(k.key)),
+        cipher: CipherId(less(k.cipher, 27)),
+        client_mac: MacId(less(k.client_mac, 38)),
+        server_mac: MacId(less(k.server_mac, 38)),
+        client_compression: CompressionId(less(k.client_compression, 43)),
+        server_compression: CompressionId(less(k.server_compression, 43)),
+        flags,
+    }
+}
+
+// The follows byte, the reserved number, whatever it is, and the end.
+fn last_fields(k: Rows, p: &[u8], c: Cursor) -> GotNames
+    ensures { λ r. ⌜ gotNames r ≡ lastFields k (here (now (p .entry)) (c .at)) ⌝ }
+{
+    let b = c.u8(p);
+    let GotByte::Byte(follows, c1) = b else {
+        return GotNames::Refused(b.why());
+    };
+    let w = c1.u32(p);
+    let GotWord::Word(_, c2) = w else {
+        return GotNames::Refused(w.why());
+    };
+    let e = c2.end(p);
+    let Checked::Fine = e else {
+        return GotNames::Refused(e.why());
+    };
+    GotNames::Settled(record(k, follows != 0))
+}
+
+fn languages(k: Rows, p: &[u8], c: Cursor) -> GotNames
+    ensures { λ r. ⌜ gotNames r ≡ languages k (here (now (p .entry)) (c .at)) ⌝ }
+{
+    let a = c.string(p);
+    let GotText::Text(_, c1) = a else {
+        return GotNames::Refused(a.why());
+    };
+    let b = c1.string(p);
+    let GotText::Text(_, c2) = b else {
+        return GotNames::Refused(b.why());
+    };
+    last_fields(k, p, c2)
+}
+
+fn compressions(
+    spellings: &[u8],
+    starts: &[u16],
+    lengths: &[u8],
+    side: Side,
+    own: &[u8],
+    k: Rows,
+    p: &[u8],
+    c: Cursor,
+) -> GotNames
+    ensures { λ r. ⌜ gotNames r ≡ compressions (spellsIn (now (spellings .entry)) (now (starts .entry)) (now (lengths .entry))) side (now (own .entry)) k (here (now (p .entry)) (c .at)) ⌝ }
+{
+    let a = pick_name(spellings, starts, lengths, side, Rule::Needed, 14, own, p, c);
+    let Picked::Row(client_compression, _, c1) = a else {
+        return GotNames::Refused(a.why());
+    };
+    let b = pick_name(spellings, starts, lengths, side, Rule::Needed, 14, own, p, c1);
+    let Picked::Row(server_compression, _, c2) = b else {
+        return GotNames::Refused(b.why());
+    };
+    let next = Rows {
+        kex: k.kex,
+        key: k.key,
+        cipher: k.cipher,
+        client_mac: k.client_mac,
+        server_mac: k.server_mac,
+        client_compression,
+        server_compression,
+        guessed: k.guessed,
+        strict: k.strict,
+    };
+    languages(next, p, c2)
+}
+
+// Both MAC lists, under the cipher's rule.
+fn macs(
+    spellings: &[u8],
+    starts: &[u16],
+    lengths: &[u8],
+    side: Side,
+    own: &[u8],
+    compression: &[u8],
+    k: Rows,
+    p: &[u8],
+    c: Cursor,
+) -> GotNames
+    ensures { λ r. ⌜ gotNames r ≡ macs (spellsIn (now (spellings .entry)) (now (starts .entry)) (now (lengths .entry))) side (now (own .entry)) (now (compression .entry)) k (here (now (p .entry)) (c .at)) ⌝ }
+{
+    let rule = mac_rule(k.cipher);
+    let a = pick_name(spellings, starts, lengths, side, rule, 13, own, p, c);
+    let Picked::Row(client_mac, _, c1) = a else {
+        return GotNames::Refused(a.why());
+    };
+    let b = pick_name(spellings, starts, lengths, side, rule, 13, own, p, c1);
+    let Picked::Row(server_mac, _, c2) = b else {
+        return GotNames::Refused(b.why());
+    };
+    let next = Rows {
+        kex: k.kex,
+        key: k.key,
+        cipher: k.cipher,
+        client_mac,
+        server_mac,
+        client_compression: 0,
+        server_compression: 0,
+        guessed: k.guessed,
+        strict: k.strict,
+    };
+    compressions(spellings, starts, lengths, side, compression, next, p, c2)
+}
+
+// The cipher server-to-client string, which is decoded and not used.
+fn other_cipher(
+    spellings: &[u8],
+    starts: &[u16],
+    lengths: &[u8],
+    side: Side,
+    mac: &[u8],
+    compression: &[u8],
+    k: Rows,
+    p: &[u8],
+    c: Cursor,
+) -> GotNames
+    ensures { λ r. ⌜ gotNames r ≡ otherCipher (spellsIn (now (spellings .entry)) (now (starts .entry)) (now (lengths .entry))) side (now (mac .entry)) (now (compression .entry)) k (here (now (p .entry)) (c .at)) ⌝ }
+{
+    let s = c.string(p);
+    let GotText::Text(_, c1) = s else {
+        return GotNames::Refused(s.why());
+    };
+    macs(spellings, starts, lengths, side, mac, compression, k, p, c1)
+}
+
+// The key and cipher lists, after the kex row, whether it was both first, and whether the exchange is strict.
+fn keys(
+    spellings: &[u8],
+    starts: &[u16],
+    lengths: &[u8],
+    side: Side,
+    key: &[u8],
+    cipher: &[u8],
+    mac: &[u8],
+    compression: &[u8],
+    kex: u8,
+    first: bool,
+    strict: bool,
+    p: &[u8],
+    c: Cursor,
+) -> GotNames
+    ensures { λ r. ⌜ gotNames r ≡ keys (spellsIn (now (spellings .entry)) (now (starts .entry)) (now (lengths .entry))) side (now (key .entry)) (now (cipher .entry)) (now (mac .entry)) (now (compression .entry)) kex first strict (here (now (p .entry)) (c .at)) ⌝ }
+{
+    let a = pick_name(spellings, starts, lengths, side, Rule::Needed, 11, key, p, c);
+    let Picked::Row(key_row, key_first, c1) = a else {
+        return GotNames::Refused(a.why());
+    };
+    let b = pick_name(spellings, starts, lengths, side, Rule::Needed, 12, cipher, p, c1);
+    let Picked::Row(cipher_row, _, c2) = b else {
+        return GotNames::Refused(b.why());
+    };
+    let next = Rows {
+        kex,
+        key: key_row,
+        cipher: cipher_row,
+        client_mac: 0,
+        server_mac: 0,
+        client_compression: 0,
+        server_compression: 0,
+        guessed: first & key_first,
+        strict,
+    };
+    other_cipher(spellings, starts, lengths, side, mac, compression, next, p, c2)
+}
+
+// All lists from the kex list on. `asked`: the own preferences hold the own strict name; `strict_row` is the other side's.
+pub fn lists(
+    spellings: &[u8],
+    starts: &[u16],
+    lengths: &[u8],
+    side: Side,
+    kex: &[u8],
+    key: &[u8],
+    cipher: &[u8],
+    mac: &[u8],
+    compression: &[u8],
+    asked: bool,
+    strictrow: u8,
+    rekey: bool,
+    p: &[u8],
+    c: Cursor,
+) -> GotNames
+    ensures { λ r. ⌜ gotNames r ≡ lists (spellsIn (now (spellings .entry)) (now (starts .entry)) (now (lengths .entry))) side (now (kex .entry)) (now (key .entry)) (now (cipher .entry)) (now (mac .entry)) (now (compression .entry)) asked strictrow rekey (here (now (p .entry)) (c .at)) ⌝ }
+{
+    let a = pick_name(spellings, starts, lengths, side, Rule::Needed, 10, kex, p, c);
+    let Picked::Row(kex_row, first, c1) = a else {
+        return GotNames::Refused(a.why());
+    };
+    let offered = stands_in(spellings, starts, lengths, strictrow, p, c);
+    let strict = asked & offered | rekey;
+    keys(spellings, starts, lengths, side, key, cipher, mac, compression, kex_row, first, strict, p, c1)
 }

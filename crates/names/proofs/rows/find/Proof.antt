@@ -1,3 +1,4 @@
+-- `names::rows::find`: the rows that are left still give the answer. Assumes nothing.
 use Prim.Native.Nat.{_-_}
 use mathlib.Core.Path.{_≡_, refl}
 use native.Mathlib.Omega.{arith}
@@ -6,9 +7,6 @@ use Rattle.names.specs.Lookup.{rowFrom}
 use Rattle.names.proofs.RowLaws.{walk-laws}
 use Rattle.names.proofs.rows.find.Statement.{statement}
 use Rattle.names.proofs.rows.find.Tie as tie
-use Rattle.names.proofs.rows.find.Reads as reads
-use Rattle.names.proofs.rows.find.Lts as lts
-use Rattle.names.proofs.rows.spells.Reads as spells-reads
 
 abbrev Inv-loop : tie.InvT-loop
 Inv-loop spellings starts lengths from to name i₀ i = rowFrom spellings starts lengths name from (to - from) ≡ rowFrom spellings starts lengths name i (to - i)
@@ -16,31 +14,21 @@ Inv-loop spellings starts lengths from to name i₀ i = rowFrom spellings starts
 abbrev μ-loop : tie.MeasureT-loop
 μ-loop spellings starts lengths from to name i₀ i = to - i
 
--- src/rows.rt:70:5
 loop-holds : tie.Need-loop-holds Inv-loop μ-loop
 loop-holds c = refl
 
--- src/rows.rt:71:12
-spells-requires : tie.Need-spells-requires Inv-loop μ-loop
-spells-requires c κs = search needs
-
--- src/rows.rt:72:13
 returns : tie.Need-returns Inv-loop μ-loop
 returns c = search walk-laws
 
--- src/rows.rt:74:9
 add-i : tie.Need-add-i Inv-loop μ-loop
 add-i c = omega arith
 
--- src/rows.rt:70:5
 loop-less : tie.Need-loop-less Inv-loop μ-loop
 loop-less c = omega arith
 
--- src/rows.rt:70:5
 loop-again : tie.Need-loop-again Inv-loop μ-loop
 loop-again c = search walk-laws
 
--- src/rows.rt:66:1
 returns-2 : tie.Need-returns-2 Inv-loop μ-loop
 returns-2 c = search walk-laws
 
@@ -51,7 +39,7 @@ find-spec =
     Inv-loop
     μ-loop
     loop-holds
-    spells-requires
+    (λ c κs. search needs)
     returns
     add-i
     loop-less

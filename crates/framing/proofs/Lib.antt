@@ -1,0 +1,6 @@
+mod CodeLaws
+mod OpeningLaws
+mod SealingLaws
+pub mod WriteLaws
+pub mod ReadLaws
+pub mod ReadBackLaws

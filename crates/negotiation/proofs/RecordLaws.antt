@@ -1,0 +1,17 @@
+-- Laws of the record that the last stage makes. Assumes nothing.
+use mathlib.Core.Path.{_≡_, refl}
+use mathlib.Core.Bool.{Bool, true, false, not, _&&_}
+use Prim.Native.Nat.{ℕ, _-_, _≤_, _<_}
+use borrow.Author.Tests.{le-leb, lt-leb}
+use lib.Dec.{leb}
+use Rattle.negotiation.specs.declared.Names.{Names}
+use Rattle.negotiation.specs.declared.stages.Rows.{Rows}
+use Rattle.negotiation.specs.Stages.{keyPlace, recorded}
+
+pub place-certificate : (row n : ℕ) → 20 ≤ row → n ≡ row - 20 → n ≡ keyPlace row
+unfolding keyPlace
+place-certificate row n h e = rw (le-leb 20 row h) e
+
+pub place-key : (row n : ℕ) → row < 20 → n ≡ row - 13 → n ≡ keyPlace row
+unfolding keyPlace
+place-key row n h e = rw (lt-leb 20 row h) e
