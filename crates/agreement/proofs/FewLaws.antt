@@ -14,11 +14,12 @@ use Rattle.text.specs.Same.{ascii}
 use Rattle.text.proofs.Utf8Laws.{ascii-utf8}
 use Rattle.put.specs.Written.{word}
 use Rattle.wire.specs.Fields.{string}
-use Rattle.wire.specs.Names.{join, nameable, every}
-use Rattle.wire.proofs.BackLaws.{list-back, names-back, string-back, join-ascii}
+use Rattle.wire.specs.Names.{join, listable, nameable, every}
+use Rattle.wire.proofs.BackLaws.{every-so, list-back, names-back, string-back, join-ascii}
 use Rattle.names.specs.Tables.{allNames, kexNames, keyNames, certificateNames, cipherNames, macNames, compressionNames}
 use Rattle.names.specs.declared.Kind.the-variants.{Cipher, Mac, Compression}
-use Rattle.names.proofs.PlaceLaws.{each, each-at}
+use Rattle.names.proofs.PlaceLaws.{every-at}
+use Rattle.names.proofs.TableLaws.{plain, tables-right}
 use Rattle.choice.specs.Rows.{rowSpelled, spelledRows}
 use Rattle.preferred.specs.Tables.{Tables, valid}
 use Rattle.preferred.specs.Own.{mostOwn, rows, kexWritten, keyRows}
@@ -30,15 +31,13 @@ use Rattle.negotiation.specs.Read.{offer}
 abbrev short : List ℕ → Bool
 short name = leb (length name) 63
 
-all-nameable : each nameable allNames ≡ true
-unfolding ascii allNames kexNames keyNames certificateNames cipherNames macNames compressionNames
-all-nameable = refl
+all-nameable : every nameable allNames ≡ true
+all-nameable = every-so plain nameable (λ x h. and-left (nameable x) (leb (length x) 255) h) allNames (tables-right .rows)
 
-all-ascii : each ascii allNames ≡ true
-unfolding ascii allNames kexNames keyNames certificateNames cipherNames macNames compressionNames
-all-ascii = refl
+all-ascii : every ascii allNames ≡ true
+all-ascii = every-so nameable ascii (λ x h. and-right (listable x) (ascii x) h) allNames all-nameable
 
-all-short : each short allNames ≡ true
+all-short : every short allNames ≡ true
 unfolding allNames kexNames keyNames certificateNames cipherNames macNames compressionNames
 all-short = refl
 
@@ -51,12 +50,12 @@ pub record Few (rs : List ℕ) : Type 0 where
   pub most : length rs ≤ mostOwn
 
 -- what is so of every name of the table is so of every name of such a list
-spelled-every : (f : List ℕ → Bool) (rs : List ℕ) → each f allNames ≡ true → every isRow rs ≡ true → every f (spelledRows rs) ≡ true
+spelled-every : (f : List ℕ → Bool) (rs : List ℕ) → every f allNames ≡ true → every isRow rs ≡ true → every f (spelledRows rs) ≡ true
 unfolding rowSpelled
 spelled-every f [] a h = refl
 spelled-every f (r ∷ rs) a h =
     let l = ltb-true r (length allNames) (and-left (isRow r) (every isRow rs) h) in
-    rw (each-at f allNames a r l) (spelled-every f rs a (and-right (isRow r) (every isRow rs) h))
+    rw (every-at f allNames a r l) (spelled-every f rs a (and-right (isRow r) (every isRow rs) h))
 
 join-length : (ns : List (List ℕ)) → every short ns ≡ true → length (join ns) ≤ 64 * length ns
 unfolding join

@@ -11,10 +11,11 @@ use Rattle.answer.proofs.Laws.{split, and-left, and-right, un-done}
 use Rattle.text.specs.Same.{same}
 use Rattle.text.specs.Literal.{bytes}
 use Rattle.text.proofs.SameLaws.{same-equal, same-differ, never}
+use Rattle.wire.specs.Names.{every}
 use Rattle.names.specs.Tables.{cipherNames, macNames, namesOf, needMac, builtIn}
 use Rattle.names.specs.Lookup.{numberOf, placeFrom}
 use Rattle.names.specs.declared.Kind.the-variants.{Cipher, Mac}
-use Rattle.names.proofs.PlaceLaws.{each, each-at}
+use Rattle.names.proofs.PlaceLaws.{every-at}
 use Rattle.choice.specs.Choice.{listed, chosen}
 use Rattle.preferred.specs.Tables.{Tables, valid}
 use Rattle.preferred.proofs.ValidLaws.{Valid, valid-parts}
@@ -30,7 +31,7 @@ use Rattle.agreement.proofs.NameLaws.{known, known-number}
 abbrev sound : List ℕ → Bool
 sound name = same name (bytes "clear") || same name (bytes "none") || needsMac name || hasIntegrity name
 
-ciphers-sound : each sound (namesOf Cipher) ≡ true
+ciphers-sound : every sound (namesOf Cipher) ≡ true
 unfolding namesOf cipherNames same needsMac hasIntegrity number numberOf placeFrom needMac builtIn
 ciphers-sound = refl
 
@@ -65,7 +66,7 @@ module _ (t : Tables) (safe : protecting t ≡ true) where
     needs : hasIntegrity cipher ≡ false → needsMac cipher ≡ true
     needs i =
         let c = known Cipher (t .cipher) cipher (v .cipher) own in
-        let s = rw (c .spelt) at (each-at sound (namesOf Cipher) ciphers-sound (c .place) (c .inside)) in
+        let s = rw (c .spelt) at (every-at sound (namesOf Cipher) ciphers-sound (c .place) (c .inside)) in
         rw (
           listed-same cipher (bytes "clear") (cipherList t) own not-clear,
           listed-same cipher (bytes "none") (cipherList t) own not-none,
