@@ -1,0 +1,12 @@
+pub mod WalkLaws
+pub mod SharedLaws
+pub mod NameLaws
+pub mod ProtectedLaws
+pub mod FewLaws
+pub mod WrittenLaws
+pub mod ApartLaws
+pub mod AgreeLaws
+pub mod NumberLaws
+pub mod EndedLaws
+pub mod DemandLaws
+pub mod PairLaws

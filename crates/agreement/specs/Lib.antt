@@ -1,0 +1,5 @@
+pub mod Protected
+pub mod Offers
+pub mod Both
+pub mod Ended
+pub mod Demand
