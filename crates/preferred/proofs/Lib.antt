@@ -4,3 +4,7 @@ pub mod FitLaws
 pub mod RoomLaws
 pub mod OwnLaws
 pub mod ValidLaws
+pub mod RangeLaws
+pub mod ExtensionLaws
+pub mod HandedLaws
+pub mod DefaultLaws

@@ -59,7 +59,7 @@ good-certificates key ids ks is g =
     good Certificate (certificates [] key ids ks is) l (certificates-numbers key ids (length (namesOf Certificate)) ks is (rw e at (good-below Key key g)))
 
 -- a kex number is its row
-kex-rows : (ns : List ℕ) → rows Kex ns ≡ ns
+pub kex-rows : (ns : List ℕ) → rows Kex ns ≡ ns
 kex-rows [] = refl
 kex-rows (n ∷ ns) = rw (zero-add n, kex-rows ns)
 
@@ -80,7 +80,7 @@ module _ (ns : List ℕ) (g : goodList Kex ns ≡ true) (r : RowList) where
 
 pub ruleset kex-laws = (kex-list, kex-client, kex-server)
 
-rows-short : (k : Kind) (ns : List ℕ) → goodList k ns ≡ true → length (rows k ns) ≤ mostEntries
+pub rows-short : (k : Kind) (ns : List ℕ) → goodList k ns ≡ true → length (rows k ns) ≤ mostEntries
 rows-short k ns g = rw (length-map ns (λ (n : ℕ). firstRow k + n)) (good-short k ns g)
 
 module _ (k : Kind) (ns : List ℕ) (g : goodList k ns ≡ true) where

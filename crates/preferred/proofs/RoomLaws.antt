@@ -2,7 +2,7 @@
 -- the lists that were judged. Certificate names each come from the key list, and each once, so there are no more of
 -- them than key numbers, however many rows there are. Assumes nothing.
 use mathlib.Core.Path.{_≡_, refl, sym, ap, _∙_}
-use mathlib.Core.Bool.{Bool, true, false, not, _&&_, _||_}
+use mathlib.Core.Bool.{Bool, true, false, not, _&&_, _||_, or-false}
 use mathlib.Core.List.{List, [], _∷_, _++_}
 use Prim.Native.Nat.{ℕ, _+_, _≤_, _<_}
 use native.Mathlib.Omega.{arith}
@@ -38,10 +38,14 @@ module _ (f : ℕ → Bool) where
       (λ e. rw e)
       (λ e. rw e (kept-from n ns (split (f m) (λ t. rw (t, e) at h) (λ t. rw t at h))))
 
+pub member-append : (n : ℕ) (xs ys : List ℕ) → member n (xs ++ ys) ≡ (member n xs || member n ys)
+unfolding member
+member-append n [] ys = refl
+member-append n (x ∷ xs) ys = split (eqb x n) (λ e. rw e) (λ e. rw e (member-append n xs ys))
+
 member-more : (n m : ℕ) (xs : List ℕ) → member n (xs ++ m ∷ []) ≡ (member n xs || eqb m n)
 unfolding member
-member-more n m [] = split (eqb m n) (λ e. rw e) (λ e. rw e)
-member-more n m (x ∷ xs) = split (eqb x n) (λ e. rw e) (λ e. rw e (member-more n m xs))
+member-more n m xs = member-append n xs (m ∷ []) ∙ ap (λ (b : Bool). member n xs || b) (or-false (eqb m n))
 
 -- how many key numbers are not among xs
 abbrev unseen : List ℕ → List ℕ → ℕ

@@ -25,23 +25,35 @@ pub record Valid (t : Tables) : Type 0 where
   pub compression : goodList Compression (t .compression) ≡ true
   pub keyRows : goodRows (t .keyKinds) (t .keyIds) ≡ true
   pub certRows : goodRows (t .certKinds) (t .certIds) ≡ true
+  pub keysAgree : consistent (t .keyKinds) (t .keyIds) (t .keyKinds) (t .keyIds) ≡ true
   pub rowsAgree : consistent (t .keyKinds) (t .keyIds) (t .certKinds) (t .certIds) ≡ true
+  pub certsAgree : consistent (t .certKinds) (t .certIds) (t .certKinds) (t .certIds) ≡ true
   pub client : rowsOf (t .side) (t .keyKinds) (t .certKinds) ≡ true
 
 pub valid-parts : (t : Tables) → valid t ≡ true → Valid t
 unfolding valid goodLists goodTables
 valid-parts t h =
     let l = all-head _ _ h in
-    let r = all-head _ _ (all-tail _ _ h) in
+    let l₂ = all-tail _ _ l in
+    let l₃ = all-tail _ _ l₂ in
+    let l₄ = all-tail _ _ l₃ in
+    let l₅ = all-tail _ _ l₄ in
+    let m = all-tail _ _ h in
+    let r = all-head _ _ m in
+    let r₂ = all-tail _ _ r in
+    let r₃ = all-tail _ _ r₂ in
+    let r₄ = all-tail _ _ r₃ in
     record {
       kex = all-head _ _ l;
-      key = all-head _ _ (all-tail _ _ l);
-      certificate = all-head _ _ (all-tail _ _ (all-tail _ _ l));
-      cipher = all-head _ _ (all-tail _ _ (all-tail _ _ (all-tail _ _ l)));
-      mac = all-head _ _ (all-tail _ _ (all-tail _ _ (all-tail _ _ (all-tail _ _ l))));
-      compression = all-head _ _ (all-tail _ _ (all-tail _ _ (all-tail _ _ (all-tail _ _ (all-tail _ _ l)))));
+      key = all-head _ _ l₂;
+      certificate = all-head _ _ l₃;
+      cipher = all-head _ _ l₄;
+      mac = all-head _ _ l₅;
+      compression = all-head _ _ (all-tail _ _ l₅);
       keyRows = all-head _ _ r;
-      certRows = all-head _ _ (all-tail _ _ r);
-      rowsAgree = all-head _ _ (all-tail _ _ (all-tail _ _ (all-tail _ _ r)));
-      client = all-head _ _ (all-tail _ _ (all-tail _ _ h));
+      certRows = all-head _ _ r₂;
+      keysAgree = all-head _ _ r₃;
+      rowsAgree = all-head _ _ r₄;
+      certsAgree = all-head _ _ (all-tail _ _ r₄);
+      client = all-head _ _ (all-tail _ _ m);
     }

@@ -1,4 +1,4 @@
--- What the private functions promise of a list that is being made: it holds up to 32, and a full list stays as it is.
+-- What the private functions promise of a list that is being made: a full one stays as it is.
 use mathlib.Core.Bool.{Bool}
 use mathlib.Core.List.{List, [], _∷_}
 use Prim.Native.Nat.{ℕ, _+_}

@@ -11,7 +11,7 @@ use Rattle.names.specs.declared.Kind.{Kind}
 use Rattle.names.specs.declared.Kind.the-variants.{Kex, Key, Certificate, Cipher, Mac, Compression}
 use Rattle.choice.specs.declared.Side.{Side}
 use Rattle.choice.specs.declared.Side.the-variants.{Client, Server}
-use Rattle.preferred.specs.Tables.{Tables, valid}
+use Rattle.preferred.specs.Tables.{Tables, mostEntries, valid}
 use Rattle.preferred.specs.declared.RowList.{RowList}
 use Rattle.preferred.specs.declared.Own.{Own}
 
@@ -91,7 +91,7 @@ keyRows t = keyOf (t .side) t
 
 -- what the code hands over: each list's rows, and zeros after them
 abbrev pub mostOwn : ℕ
-mostOwn = 32
+mostOwn = mostEntries + mostEntries
 
 abbrev pub rowList : List ℕ → RowList
 rowList xs = record { rows = xs ++ replicate (mostOwn - length xs) 0; len = length xs }

@@ -4,11 +4,10 @@ ghost use mathlib.Core.Bool.{not, _||_};
 ghost use Prim.Native.Nat.{min};
 ghost use lib.Dec.{ltb, eqb};
 ghost use Rattle.preferred.specs.Tables.{below, goodList, goodRows, agrees, consistent, rowsOf, goodLists, goodTables, valid, tables};
+use super::MOST_ENTRIES;
 use choice::Side;
 use names::Kind;
 use names::wide;
-
-const MOST_ENTRIES: usize = 16;
 
 const MOST_ROWS: usize = 8;
 

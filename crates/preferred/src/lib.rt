@@ -10,8 +10,11 @@ pub use defaults::default_lists;
 pub use judge::valid;
 pub use make::own_lists;
 
-// The longest own list: the certificate names and the key names of 16 entries.
-pub const MOST_OWN: usize = 32;
+// Of a preference list.
+pub const MOST_ENTRIES: usize = 16;
+
+// Of an own list: certificate names, then key names.
+pub const MOST_OWN: usize = 2 * MOST_ENTRIES;
 
 // Rows of the name table, `len` of them, and 0 after them.
 pub struct RowList {
