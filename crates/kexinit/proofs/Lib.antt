@@ -1,0 +1,3 @@
+pub mod RunLaws
+pub mod TableLaws
+pub mod KexLaws
