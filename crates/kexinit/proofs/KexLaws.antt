@@ -1,37 +1,32 @@
 -- What the code writes, piece by piece, of the own lists of valid tables is the definition's KEXINIT. Assumes nothing.
 use mathlib.Core.Path.{_≡_, refl, sym, ap, _∙_}
-use mathlib.Core.Bool.{Bool, true, false, _&&_}
-use mathlib.Core.List.{List, [], _∷_, _++_, map}
-use Prim.Native.Nat.{ℕ, _+_, _*_, _≤_, _<_}
+use mathlib.Core.Bool.{true, false, _&&_}
+use mathlib.Core.List.{List, [], _∷_, map}
+use Prim.Native.Nat.{ℕ, _+_, _*_, _≤_}
 use native.Mathlib.Nat.{zero-add}
 use native.Mathlib.Omega.{arith}
-use borrow.Author.Tests.{eq-eqb, ne-eqb, lt-ltb, le-ltb, ltb-true, ltb-false}
+use borrow.Author.Tests.{eq-eqb, ne-eqb, ltb-true, ltb-false}
 use lib.Dec.{ltb, eqb, lit≤}
 use lib.ListN.{length, length-append}
-use lib.Seq.{sets}
 use Rattle.answer.specs.declared.Refusal.{Refusal}
-use Rattle.answer.specs.Answer.{Out, refused, done, refuse, guard, pick, _>>=_}
+use Rattle.answer.specs.Answer.{Out, refused, done, refuse}
 use Rattle.answer.proofs.Laws.{split, pass, stop}
 use Rattle.put.specs.Written.{word}
 use Rattle.put.proofs.PutLaws.{word-length}
-use Rattle.wire.specs.Names.{join, every}
+use Rattle.wire.specs.Names.{join}
 use Rattle.names.specs.Tables.{allNames}
 use Rattle.names.specs.Spelled.{nameAt, rowName}
 use Rattle.names.specs.declared.Kind.the-variants.{Cipher, Mac, Compression}
 use Rattle.names.proofs.ColumnLaws.{flat, starts, lengths, row-name}
 use Rattle.names.proofs.WriterLaws.{Puts, refused-put, full-put, stored-put}
-use Rattle.choice.specs.Rows.{spelledRows}
-use Rattle.lists.specs.Lists.{listBy}
-use Rattle.lists.specs.Texts.{lengthBy}
-use Rattle.preferred.specs.declared.RowList.{RowList}
 use Rattle.preferred.specs.declared.Own.{Own}
 use Rattle.preferred.specs.Tables.{Tables, valid}
-use Rattle.preferred.specs.Own.{rows, rowList, kexWritten, keyRows, listsOf, ownOf, noOwn}
-use Rattle.preferred.proofs.HandedLaws.{handed-rows, own-lists, own-nothing, number-valid}
+use Rattle.preferred.specs.Own.{rows, kexWritten, keyRows, listsOf, ownOf, noOwn}
+use Rattle.preferred.proofs.HandedLaws.{own-lists, own-nothing, number-valid}
 use Rattle.preferred.proofs.RangeLaws.{table-rows, written-within, keys-within, ciphers-within, macs-within, compressions-within, written-short, keys-short, ciphers-short, macs-short, compressions-short}
 use Rattle.negotiation.specs.Written.{kexList, keyList, cipherList, macList, compressionList, listField, kexInit, writeKex}
-use Rattle.kexinit.specs.Pieces.{ended, filled, listOf, head, twice, ending, pieces, size, answered, left}
-use Rattle.kexinit.proofs.RunLaws.{Ran, run-all}
+use Rattle.kexinit.specs.Pieces.{head, twice, ending, pieces, size, answered, left}
+use Rattle.kexinit.proofs.RunLaws.{run-all}
 use Rattle.kexinit.proofs.TableLaws.{Few, bytes-few, list-handed, length-handed}
 
 -- the pieces of the definition
@@ -87,8 +82,8 @@ module _ (t : Tables) (v : valid t ≡ true) where
   compressions =
       record { inside = table-rows 43 44 (rows Compression (t .compression)) (lit≤ tt) (compressions-within t v); most = omega (arith, compressions-short t v) }
 
-  -- so 1 and 4 cannot occur
-  pub kex-most : (cookie : List ℕ) → length cookie ≡ 16 → length (kexInit t cookie) ≤ 262176
+  -- at most what a packet carries, which is less than what a reader takes: 1 and 4 cannot occur
+  pub kex-most : (cookie : List ℕ) → length cookie ≡ 16 → length (kexInit t cookie) ≤ 262167
   kex-most cookie k =
       omega
       (arith, kex-length t cookie k, bytes-few _ kexes, bytes-few _ keys, bytes-few _ ciphers, bytes-few _ macs, bytes-few _ compressions)
@@ -103,7 +98,7 @@ module _ (t : Tables) (v : valid t ≡ true) where
   size-length cookie k =
       rw (kex-length t cookie k, length-handed _ kexes, length-handed _ keys, length-handed _ ciphers, length-handed _ macs, length-handed _ compressions)
 
-  write-valid : (cookie : List ℕ) → length cookie ≡ 16 → writeKex t cookie ≡ done (kexInit t cookie)
+  pub write-valid : (cookie : List ℕ) → length cookie ≡ 16 → writeKex t cookie ≡ done (kexInit t cookie)
   unfolding writeKex
   write-valid cookie k = pass 9 (valid t && eqb (length cookie) 16) _ (rw (v, eq-eqb (length cookie) 16 k))
 
@@ -128,8 +123,9 @@ module _ (t : Tables) (cookie out : List ℕ) where
     unfolding listsOf
     unlisted h = split (valid t) (λ e. absurd (h (ap (λ (o : Own). o .number) (made ∙ own-lists t e)))) (λ e. e)
 
-    pub kex-tables : (own .number ≡ 0 → ⊥) → (r : Refusal) → r ≡ record { number = 9 } → Puts out 0 (writeKex t cookie) (refused r) out
-    kex-tables h r q = refused-put out 0 _ r 9 (write-refused (rw (unlisted h))) q
+    pub kex-tables : (own .number ≡ 0 → ⊥) → (r : Refusal) → r ≡ record { number = own .number } → Puts out 0 (writeKex t cookie) (refused r) out
+    unfolding noOwn
+    kex-tables h r q = refused-put out 0 _ r 9 (write-refused (rw (unlisted h))) (q ∙ rw (made, own-nothing t (unlisted h)))
 
     pub kex-put : own .number ≡ 0 → length cookie ≡ 16 → (r : Out ℕ) (out′ : List ℕ)
         → (r ≡ answered columns out own cookie) × (out′ ≡ left columns out own cookie) → Puts out 0 (writeKex t cookie) r out′

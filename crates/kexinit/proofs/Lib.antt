@@ -1,3 +1,5 @@
 pub mod RunLaws
 pub mod TableLaws
 pub mod KexLaws
+pub mod WrittenLaws
+pub mod ExampleLaws

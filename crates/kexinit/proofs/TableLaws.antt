@@ -1,14 +1,14 @@
 -- A list of rows of the name table, written: it has a name for each row, and no name is long. Assumes nothing.
-use mathlib.Core.Path.{_≡_, refl, sym, ap, _∙_}
-use mathlib.Core.Bool.{Bool, true, false, _&&_}
-use mathlib.Core.List.{List, [], _∷_, _++_, map}
-use Prim.Native.Nat.{ℕ, _+_, _*_, _≤_, _<_, min}
+use mathlib.Core.Path.{_≡_, refl}
+use mathlib.Core.Bool.{Bool, true}
+use mathlib.Core.List.{List, [], _∷_}
+use Prim.Native.Nat.{ℕ, _*_, _≤_}
 use native.Mathlib.Omega.{arith}
-use borrow.Author.Tests.{ltb-true, ltb-false}
+use borrow.Author.Tests.{ltb-true}
 use lib.Dec.{ltb}
-use lib.ListN.{length, getD, length-append}
-use Rattle.answer.specs.Answer.{Out, done, _>>=_}
-use Rattle.answer.proofs.Laws.{split, and-left, and-right}
+use lib.ListN.{length, length-append}
+use Rattle.answer.specs.Answer.{done, _>>=_}
+use Rattle.answer.proofs.Laws.{and-left, and-right}
 use Rattle.put.proofs.PutLaws.{string-short}
 use Rattle.wire.specs.Names.{join, every}
 use Rattle.names.specs.Tables.{allNames}

@@ -198,7 +198,7 @@ pub fn write_kex(
         cert_ids,
     );
     if own.number != 0 {
-        return Put::Refused(refuse(OUTSIDE));
+        return Put::Refused(refuse(own.number));
     }
     if cookie.len() != COOKIE {
         return Put::Refused(refuse(OUTSIDE));

@@ -7,7 +7,7 @@ use Rattle.kexinit.proofs.put_ending.Tie as tie
 
 returns : tie.Need-returns
 unfolding ending
-returns c = 
+returns c =
     run-more _ _ _ _ _ _ (c .before .before .before .before .before .before .before .before .before .before .before .before .before .before .before .before .before .before .put-u32 .ensures) (c .before .before .before .before .before .before .before .before .before .before .before .before .before .before .before .after .ensures) _ _ _
     (run-more _ _ _ _ _ _ (c .before .before .before .before .before .before .before .before .before .before .before .before .before .put-u322 .ensures) (c .before .before .before .before .before .before .before .before .before .before .after2 .ensures) _ _ _
     (run-more _ _ _ _ _ _ (c .before .before .before .before .before .before .before .before .put-u8 .ensures) (c .before .before .before .before .before .after3 .ensures) _ _ _

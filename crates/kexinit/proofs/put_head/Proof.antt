@@ -7,7 +7,7 @@ use Rattle.kexinit.proofs.put_head.Tie as tie
 
 returns : tie.Need-returns
 unfolding head
-returns c = 
+returns c =
     run-more _ _ _ _ _ _ (c .before .before .before .before .before .before .before .before .before .before .before .before .before .before .before .before .before .before .put-u8 .ensures) (c .before .before .before .before .before .before .before .before .before .before .before .before .before .before .before .after .ensures) _ _ _
     (run-more _ _ _ _ _ _ (c .before .before .before .before .before .before .before .before .before .before .before .before .before .put-bytes .ensures) (c .before .before .before .before .before .before .before .before .before .before .after2 .ensures) _ _ _
     (run-more _ _ _ _ _ _ (c .before .before .before .before .before .before .before .before .put-list .ensures) (c .before .before .before .before .before .after3 .ensures) _ _ _

@@ -7,7 +7,7 @@ use Rattle.kexinit.proofs.put_pieces.Tie as tie
 
 returns : tie.Need-returns
 unfolding pieces
-returns c = 
+returns c =
     run-both _ _ _ _ _ _ _ _ (c .before .before .before .before .before .before .before .before .before .before .before .before .before .before .before .before .before .before .put-head .ensures)
     (run-both _ _ _ _ _ _ _ _ (c .before .before .before .before .before .before .before .before .before .before .before .before .before .before .put-twice .ensures)
     (run-both _ _ _ _ _ _ _ _ (c .before .before .before .before .before .before .before .before .before .before .put-twice2 .ensures)

@@ -7,7 +7,7 @@ use Rattle.kexinit.proofs.put_twice.Tie as tie
 
 returns : tie.Need-returns
 unfolding twice
-returns c = 
+returns c =
     run-more _ _ _ _ _ _ (c .before .before .before .before .before .before .before .before .put-list .ensures) (c .before .before .before .before .before .after .ensures) _ _ _
     (run-last _ _ _ _ _ _ (c .before .before .before .put-list2 .ensures) (c .after2 .ensures))
 
