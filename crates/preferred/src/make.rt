@@ -29,6 +29,7 @@ const CLIENT_NAMES: [u8; 2] = [9, 11];
 // ext-info-s, kex-strict-s-v00@openssh.com
 const SERVER_NAMES: [u8; 2] = [10, 12];
 
+// Those of both.
 const EXTENSIONS: [u8; 4] = [9, 11, 10, 12];
 
 fn row(kind: Kind, number: u8) -> u8
@@ -51,6 +52,7 @@ fn join_rows(list: RowList, kind: Kind, numbers: &[u8]) -> RowList
     l
 }
 
+// Kex names stand first in the name table, so that a kex number is its row.
 fn kex_written(side: Side, kex: &[u8]) -> RowList
     requires { ⌜ goodList Kex (now kex) ≡ true ⌝ }
     ensures { λ r. ⌜ r ≡ rowList (rows Kex (without (extensions (other side)) (now (kex .entry)))) ⌝ }
