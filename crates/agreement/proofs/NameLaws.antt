@@ -7,9 +7,9 @@ use Prim.Native.Nat.{ℕ, _+_, _<_}
 use lib.Dec.{ltb, eqb}
 use lib.ListN.{length, getD}
 use borrow.Author.Tests.{ltb-true, eqb-true, eqb-false}
-use Rattle.answer.proofs.Laws.{split, and-left, and-right}
+use Rattle.answer.proofs.Laws.{split, and-left, and-right, never}
 use Rattle.text.specs.Same.{same}
-use Rattle.text.proofs.SameLaws.{same-self, same-equal, never}
+use Rattle.text.proofs.SameLaws.{same-self, same-equal}
 use Rattle.names.specs.Tables.{namesOf, firstRow}
 use Rattle.names.specs.Lookup.{numberOf}
 use Rattle.names.specs.declared.Kind.{Kind}

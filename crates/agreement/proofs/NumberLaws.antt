@@ -6,9 +6,8 @@ use mathlib.Core.Logic.{_⊎_, inl, inr, ⊎-elim}
 use mathlib.Core.Option.{Option, some, none}
 use Prim.Native.Nat.{ℕ}
 use Rattle.answer.specs.Answer.{pick}
-use Rattle.answer.proofs.Laws.{split}
+use Rattle.answer.proofs.Laws.{split, never}
 use Rattle.text.specs.Same.{same}
-use Rattle.text.proofs.SameLaws.{never}
 use Rattle.names.specs.Tables.{namesOf, macNames}
 use Rattle.names.specs.Lookup.{numberOf, placeFrom}
 use Rattle.names.specs.declared.Kind.{Kind}

@@ -7,10 +7,10 @@ use Prim.Native.Nat.{ℕ}
 use lib.ListN.{getD}
 use borrow.Author.Tests.{not-true}
 use Rattle.answer.specs.Answer.{done}
-use Rattle.answer.proofs.Laws.{split, and-left, and-right, un-done}
+use Rattle.answer.proofs.Laws.{split, and-left, and-right, un-done, never}
 use Rattle.text.specs.Same.{same}
 use Rattle.text.specs.Literal.{bytes}
-use Rattle.text.proofs.SameLaws.{same-equal, same-differ, never}
+use Rattle.text.proofs.SameLaws.{same-equal, same-differ}
 use Rattle.wire.specs.Names.{every}
 use Rattle.names.specs.Tables.{cipherNames, macNames, namesOf, needMac, builtIn}
 use Rattle.names.specs.Lookup.{numberOf, placeFrom}

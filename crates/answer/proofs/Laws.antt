@@ -6,6 +6,10 @@ use native.Mathlib.Omega.{arith}
 use Rattle.answer.specs.declared.Refusal.{Refusal}
 use Rattle.answer.specs.Answer.{Out, refused, done, guard, refuse, pick, _>>=_}
 
+-- equations that clash prove 0 ≡ 1 by `cc`, and so anything
+pub never : {G : Type 0} → _≡_ {A = ℕ} 0 1 → G
+never e = absurd (omega arith)
+
 -- case analysis on a test, with what it said
 pub split : {G : Type 0} (b : Bool) → (b ≡ true → G) → (b ≡ false → G) → G
 split true f g = f refl
@@ -28,7 +32,7 @@ pub un-refused : {A : Type 0} {q r : Refusal} → _≡_ {A = Out A} (refused q) 
 un-refused p = cc
 
 pub not-both : {A : Type 0} {a : A} {r : Refusal} → _≡_ {A = Out A} (done a) (refused r) → ⊥
-not-both p = let z : _≡_ {A = ℕ} 0 1 = cc in omega arith
+not-both p = never (cc)
 
 -- an `&&` that holds, taken apart
 pub and-left : (a b : Bool) → (a && b) ≡ true → a ≡ true

@@ -23,6 +23,7 @@ use Rattle.wire.specs.Fields.{At, Run, here, word, string, end}
 use Rattle.wire.specs.Shown.{part}
 use Rattle.wire.specs.Answers.{gotWord, gotText, checked, runAt, whyNoWord, whyNoText, whyNotFine}
 use Rattle.wire.proofs.FieldLaws.{No}
+use Rattle.wire.proofs.StepLaws.{field-steps}
 use Rattle.channels.specs.declared.ChannelType.{ChannelType}
 use Rattle.channels.specs.declared.fields.Offer.{Offer}
 use Rattle.channels.specs.declared.fields.GotOffer.{GotOffer}
@@ -32,34 +33,6 @@ use Rattle.channels.specs.declared.open.GotType.the-variants.{Typ, Refus
 use Rattle.channels.specs.Open.{offer, exact, channelType}
 use Rattle.channels.specs.Answers.{gotOffer, gotType, whyNoOffer}
 use Rattle.channels.proofs.PlaceLaws.{Ran, first-ran}
-
-module _ {B : Type 0} (s : List ℕ) (c : At) where
-  module _ (w : GotWord) (f : ℕ × At → Out B) (told : gotWord s w ≡ word c) where
-    pub word-on : (n : ℕ) (d : Cursor) (m : Out B) → w ≡ Word n d → m ≡ f (n, here s (d .at)) → m ≡ (word c >>= f)
-    unfolding _>>=_
-    word-on n d m e k = rw (← told, e) k
-
-    pub word-out : (x r : Refusal) → w ≡ NoWord x → r ≡ whyNoWord w → refused r ≡ (word c >>= f)
-    unfolding _>>=_
-    word-out x r e k = rw (← told, k, e)
-
-  module _ (w : GotText) (f : Run × At → Out B) (told : gotText s w ≡ string c) where
-    pub text-on : (p : Place) (d : Cursor) (m : Out B) → w ≡ Text p d → m ≡ f (runAt s p, here s (d .at)) → m ≡ (string c >>= f)
-    unfolding _>>=_
-    text-on p d m e k = rw (← told, e) k
-
-    pub text-out : (x r : Refusal) → w ≡ NoText x → r ≡ whyNoText w → refused r ≡ (string c >>= f)
-    unfolding _>>=_
-    text-out x r e k = rw (← told, k, e)
-
-module _ {B : Type 0} (c : At) (w : Checked) (f : Unit {0} → Out B) (told : checked w ≡ end c) where
-  pub end-on : (m : Out B) → w ≡ Fine → m ≡ f tt → m ≡ (end c >>= f)
-  unfolding _>>=_
-  end-on m e k = rw (← told, e) k
-
-  pub end-out : (x r : Refusal) → w ≡ NotFine x → r ≡ whyNotFine w → refused r ≡ (end c >>= f)
-  unfolding _>>=_
-  end-out x r e k = rw (← told, k, e)
 
 -- the two limits that are tested
 module _ {B : Type 0} (a most : ℕ) (f : Unit {0} → Out B) where
@@ -94,7 +67,7 @@ module _ {B : Type 0} (s : List ℕ) (c : At) (w : GotOffer) (f : Offer × At �
   unfolding _>>=_
   offer-out x r e k = rw (← told, k, e)
 
-pub ruleset steps = (refl, word-on, word-out, text-on, text-out, end-on, end-out, limit-on, limit-out, zero-on, zero-out, exact-as, offer-on, offer-out)
+pub ruleset steps = (field-steps, limit-on, limit-out, zero-on, zero-out, exact-as, offer-on, offer-out)
 
 -- a type name that was compared
 module _ {B : Type 0} (t u : List ℕ) (b : Bool) (told : b ≡ same t u) (x y m : Out B) where

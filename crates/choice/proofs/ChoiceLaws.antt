@@ -8,9 +8,9 @@ use lib.Dec.{ltb}
 use lib.ListN.{length}
 use borrow.Author.Tests.{ltb-true}
 use Rattle.answer.specs.Answer.{pick}
-use Rattle.answer.proofs.Laws.{split, and-left, and-right}
+use Rattle.answer.proofs.Laws.{split, and-left, and-right, never}
 use Rattle.text.specs.Same.{same}
-use Rattle.text.proofs.SameLaws.{never, same-self, same-equal}
+use Rattle.text.proofs.SameLaws.{same-self, same-equal}
 use Rattle.wire.specs.Names.{every}
 use Rattle.names.specs.Tables.{allNames}
 use Rattle.names.proofs.RowLaws.{entry-in}

@@ -4,8 +4,7 @@ use mathlib.Core.Bool.{Bool, true, not}
 use mathlib.Core.List.{List, [], _∷_, _++_, map}
 use mathlib.Core.Option.{some, none, Option·map}
 use Rattle.answer.specs.Answer.{pick}
-use Rattle.answer.proofs.Laws.{split, and-left, and-right}
-use Rattle.text.proofs.SameLaws.{never}
+use Rattle.answer.proofs.Laws.{split, and-left, and-right, never}
 use Rattle.wire.specs.Names.{every}
 use Rattle.choice.specs.Choice.{first}
 

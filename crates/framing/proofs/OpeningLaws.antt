@@ -48,24 +48,23 @@ unfolding judgedPadding
 padding-within len padding j judged e =
     split (leb padding len) (λ t. leb-true padding len t) (λ t. absurd (not-both (rw (e, t) at judged)))
 
-module _ (s : List ℕ) (start : Cursor) (first : _≡_ {A = Cursor} start (record { at = 0 })) (w : GotWord)
-    (told : gotWord s w ≡ word (here s (start .at)))
+module _ (s : List ℕ) (w : GotWord) (told : gotWord s w ≡ word (here s 0))
   where
     -- no length is read exactly where fewer than four bytes are there
     under-four : (x : Refusal) → w ≡ NoWord x → length s < 4
     unfolding word _>>=_
-    under-four x e = split (leb 4 (length s)) (λ t. absurd (not-both (sym (rw (e, first, t) at told)))) (λ t. leb-false 4 (length s) t)
+    under-four x e = split (leb 4 (length s)) (λ t. absurd (not-both (sym (rw (e, t) at told)))) (λ t. leb-false 4 (length s) t)
 
     four : (n : ℕ) (c : Cursor) → w ≡ Word n c → 4 ≤ length s
     unfolding word _>>=_
-    four n c e = split (leb 4 (length s)) (λ t. leb-true 4 (length s) t) (λ t. absurd (not-both (rw (e, first, t) at told)))
+    four n c e = split (leb 4 (length s)) (λ t. leb-true 4 (length s) t) (λ t. absurd (not-both (rw (e, t) at told)))
 
     announced-is : (n : ℕ) (c : Cursor) → w ≡ Word n c → announced s ≡ n
     unfolding word announced _>>=_
     announced-is n c e =
         split (leb 4 (length s))
-        (λ t. sym (ap (λ (x : ℕ × At). x .0) (un-done (rw (e, first, t) at told))))
-        (λ t. absurd (not-both (rw (e, first, t) at told)))
+        (λ t. sym (ap (λ (x : ℕ × At). x .0) (un-done (rw (e, t) at told))))
+        (λ t. absurd (not-both (rw (e, t) at told)))
 
     module _ (k : Counters) where
       pub read-short : (x : Refusal) → w ≡ NoWord x → done (need 4) ≡ readPacket s k

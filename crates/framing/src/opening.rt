@@ -65,7 +65,8 @@ fn open(s: &[u8], len: usize, k: Counters) -> GotPacket
 pub fn read(s: &[u8], k: Counters) -> GotPacket
     ensures { λ r. ⌜ gotPacket r ≡ readPacket (now (s .entry)) k ⌝ }
 {
-    let w = Cursor::new(0).u32(s);
+    let start = Cursor { at: 0 };
+    let w = start.u32(s);
     let GotWord::Word(n, _) = w else {
         return GotPacket::Need(4);
     };

@@ -19,7 +19,7 @@ use Rattle.names.proofs.WriterLaws.{Puts, full-put, stored-put}
 use Rattle.names.proofs.RowLaws.{shown, row-outside}
 use Rattle.names.proofs.ColumnLaws.{flat, starts, lengths, row-name}
 use Rattle.lists.specs.Lists.{namesBy, listBy}
-use Rattle.lists.specs.Texts.{named, texts, most, sizeFrom}
+use Rattle.lists.specs.Texts.{named, texts, most, sizeFrom, lengthBy}
 
 -- the columns of the one table give the list of its names
 pub table-list : (rows : List ℕ) → listBy (rowName (flat allNames) (starts 0 allNames) (lengths allNames)) rows ≡ listBy (nameAt allNames) rows
@@ -44,6 +44,12 @@ join-ends (x ∷ []) = omega arith
 join-ends (x ∷ (y ∷ ys)) =
     let ih = join-ends (y ∷ ys) in
     length-append x (44 ∷ join (y ∷ ys)) ∙ omega arith
+
+-- a list that is measured
+pub measured-length : (name : ℕ → Out (List ℕ)) (rows : List ℕ) (total len : ℕ) → total ≡ sizeFrom 0 (texts name rows) → len ≡ total - 1
+    → len ≡ lengthBy name rows
+measured-length name rows total len e f =
+    omega (arith, size-ends 0 (texts name rows) (omega arith), join-ends (texts name rows))
 
 module _ (spellings starts lengths rows : List ℕ) where
   abbrev name : ℕ → Out (List ℕ)

@@ -1,9 +1,10 @@
--- What the private functions promise: a list is judged, then measured, then written.
+-- A list judged, then measured, then written.
 use mathlib.Core.Bool.{Bool, true, _&&_}
 use mathlib.Core.List.{List, [], _∷_, _++_, map}
 use Prim.Native.Nat.{ℕ, _+_, min}
 use lib.ListN.{length}
 use Rattle.answer.specs.Answer.{Out, refused, done}
+use Rattle.wire.specs.Names.{join}
 use Rattle.wire.specs.Shown.{bytesOf}
 use Rattle.names.specs.Spelled.{there}
 
@@ -16,6 +17,10 @@ module _ (name : ℕ → Out (List ℕ)) where
   -- the names; a number that has none counts as empty
   unfoldable pub texts : List ℕ → List (List ℕ)
   texts ns = map (λ n. bytesOf (name n)) ns
+
+  -- how long the names are when they are joined, up to one more than the longest string
+  abbrev pub lengthBy : List ℕ → ℕ
+  lengthBy ns = min (length (join (texts ns))) 4294967296
 
 -- a name and the comma after it
 unfoldable pub part : Out (List ℕ) → List ℕ

@@ -9,7 +9,7 @@ ghost use Rattle.put.specs.Written.{written, buffer, put, word};
 ghost use Rattle.wire.specs.Names.{join};
 ghost use Rattle.names.specs.Spelled.{rowName};
 ghost use Rattle.lists.specs.Lists.{listBy, nameListOf};
-ghost use Rattle.lists.specs.Texts.{named, texts, part, most, sizeFrom, nextOr};
+ghost use Rattle.lists.specs.Texts.{named, texts, part, most, sizeFrom, lengthBy, nextOr};
 use answer::refuse;
 use names::OUTSIDE;
 use names::inside;
@@ -66,7 +66,8 @@ fn size(spellings: &[u8], starts: &[u16], lengths: &[u8], rows: &[u8]) -> usize
     total
 }
 
-fn after(p: Put, at: usize) -> usize
+// Where the next put goes when one was made at `at`: for a writer that has tested the room for a whole run of puts.
+pub fn after(p: Put, at: usize) -> usize
     ensures { λ r. ⌜ r ≡ nextOr (put p) at ⌝ }
 {
     match p {
@@ -150,6 +151,14 @@ fn less(total: usize) -> usize
     ensures { λ r. ⌜ r ≡ total - 1 ⌝ }
 {
     if total == 0 { 0 } else { total - 1 }
+}
+
+// How many bytes the names of a list and their commas have, up to one more than the longest string: for a writer that
+// must know the room before it writes.
+pub fn rows_length(spellings: &[u8], starts: &[u16], lengths: &[u8], rows: &[u8]) -> usize
+    ensures { λ r. ⌜ r ≡ lengthBy (rowName (now (spellings .entry)) (now (starts .entry)) (now (lengths .entry))) (now (rows .entry)) ⌝ }
+{
+    less(size(spellings, starts, lengths, rows))
 }
 
 // The list of rows of any three columns.

@@ -2,15 +2,10 @@
 use mathlib.Core.Bool.{Bool, true, false, _&&_, _||_}
 use mathlib.Core.List.{List, [], _∷_, _++_, map}
 use Prim.Native.Nat.{ℕ}
-use Prim.Native.Char.{code}
-use Prim.Native.String.{String, [] as nil, _∷_ as _then_}
 use lib.Dec.{eqb}
+pub use Rattle.text.specs.Literal.{bytes}
 use Rattle.names.specs.declared.Kind.{Kind}
 use Rattle.names.specs.declared.Kind.the-variants.{Kex, Key, Certificate, Cipher, Mac, Compression}
-
-abbrev pub bytes : String → List ℕ
-bytes nil = []
-bytes (c then s) = code c ∷ bytes s
 
 unfoldable pub kexNames : List (List ℕ)
 kexNames =

@@ -5,7 +5,7 @@ use mathlib.Core.List.{List, [], _∷_, _++_, map}
 use Prim.Native.Nat.{ℕ, _+_, _≤_, _<_}
 use native.Mathlib.Omega.{arith}
 use native.Mathlib.Nat.{zero-add}
-use borrow.Author.Tests.{leb-true, le-leb}
+use borrow.Author.Tests.{leb-true, le-leb, not-true, not-false}
 use lib.Dec.{leb}
 use lib.ListN.{length, length-map}
 use Rattle.answer.proofs.Laws.{and-left, and-right}
@@ -21,6 +21,7 @@ use Rattle.preferred.specs.Tables.{Tables, all, below, goodList, mostEnt
 use Rattle.preferred.specs.Own.{mostOwn, member, kept, without, held, kindOf, certificates, rows, rowList, extensions, other, kexWritten, kexChosen, keysOf, keyRows, noOwn, listsOf, ownOf}
 use Rattle.preferred.specs.Made.{shown, joined, certified}
 use Rattle.preferred.proofs.FitLaws.{shown-list, joined-list, certified-list}
+use Rattle.preferred.proofs.ValidLaws.{Valid, valid-parts}
 use Rattle.preferred.proofs.RoomLaws.{kept-short, kept-below, certificates-short, certificates-numbers}
 
 -- a good list is short, and its numbers are of its table
@@ -149,27 +150,21 @@ pub nothing : (l : RowList) → l ≡ rowList []
 unfolding noOwn
 nothing l e = rw e
 
-module _ (t : Tables) where
-  pub lists-made : (a b c d e f : RowList) → a ≡ rowList (rows Kex (without (extensions (other (t .side))) (t .kex)))
-      → b ≡ rowList (rows Kex (without (extensions Client ++ extensions Server) (t .kex)))
-      → c ≡ rowList (keyRows t)
-      → d ≡ rowList (rows Cipher (t .cipher))
-      → e ≡ rowList (rows Mac (t .mac))
-      → f ≡ rowList (rows Compression (t .compression))
-      → _≡_ {A = Own} (record { number = 0; «kex_written» = a; «kex_chosen» = b; key = c; cipher = d; mac = e; compression = f }) (listsOf t)
-  unfolding listsOf kexWritten kexChosen
-  lists-made a b c d e f p q r s u v = rw (p, q, r, s, u, v)
+module _ (t : Tables) (v : Bool) (judged : v ≡ valid t) where
+  pub own-refused : not v ≡ true → (o : Own) → o ≡ noOwn → o ≡ ownOf t
+  unfolding ownOf
+  own-refused h o e = rw (← judged, not-true v h, e)
 
-  module _ (b : Bool) (judged : b ≡ valid t) where
-    pub told-valid : b ≡ true → valid t ≡ true
-    told-valid h = sym judged ∙ h
+  module _ (h : not v ≡ false) where
+    pub judged-valid : Valid t
+    judged-valid = valid-parts t (sym judged ∙ not-false v h)
 
-    pub own-valid : b ≡ true → (o : Own) → o ≡ listsOf t → o ≡ ownOf t
-    unfolding ownOf
-    own-valid h o e = rw (← judged, h, e)
-
-    pub own-refused : b ≡ false → (o : Own) → o ≡ noOwn → o ≡ ownOf t
-    unfolding ownOf
-    own-refused h o e = rw (← judged, h, e)
-
-pub ruleset own-laws = (own-valid, own-refused)
+    pub own-made : (a b c d e f : RowList) → a ≡ rowList (rows Kex (without (extensions (other (t .side))) (t .kex)))
+        → b ≡ rowList (rows Kex (without (extensions Client ++ extensions Server) (t .kex)))
+        → c ≡ rowList (keyRows t)
+        → d ≡ rowList (rows Cipher (t .cipher))
+        → e ≡ rowList (rows Mac (t .mac))
+        → f ≡ rowList (rows Compression (t .compression))
+        → _≡_ {A = Own} (record { number = 0; «kex_written» = a; «kex_chosen» = b; key = c; cipher = d; mac = e; compression = f }) (ownOf t)
+    unfolding ownOf listsOf kexWritten kexChosen
+    own-made a b c d e f p q r s u w = rw (← judged, not-false v h, p, q, r, s, u, w)

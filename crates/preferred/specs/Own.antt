@@ -15,10 +15,12 @@ use Rattle.preferred.specs.Tables.{Tables, mostEntries, valid}
 use Rattle.preferred.specs.declared.RowList.{RowList}
 use Rattle.preferred.specs.declared.Own.{Own}
 
+-- a number stands in a list
 unfoldable pub member : ℕ → List ℕ → Bool
 member n [] = false
 member n (m ∷ ms) = eqb m n || member n ms
 
+-- those of which the test holds
 unfoldable pub kept : (ℕ → Bool) → List ℕ → List ℕ
 kept f [] = []
 kept f (n ∷ ns) = pick (f n) (n ∷ kept f ns) (kept f ns)
@@ -89,10 +91,11 @@ keyOf side t = keysOf side (t .key) (t .certificate) (t .keyKinds) (t .keyIds) (
 abbrev pub keyRows : Tables → List ℕ
 keyRows t = keyOf (t .side) t
 
--- what the code hands over: each list's rows, and zeros after them
+-- certificate names each come from the key list, each once, so there are no more of them than of key names
 abbrev pub mostOwn : ℕ
 mostOwn = mostEntries + mostEntries
 
+-- what the code hands over: a list's rows, and zeros after them
 abbrev pub rowList : List ℕ → RowList
 rowList xs = record { rows = xs ++ replicate (mostOwn - length xs) 0; len = length xs }
 
@@ -108,6 +111,7 @@ listsOf t =
       compression = rowList (rows Compression (t .compression));
     }
 
+-- "A refusal returns its number and nothing else."
 unfoldable pub noOwn : Own
 noOwn =
     record {

@@ -41,6 +41,7 @@ unfoldable pub all : List Bool → Bool
 all [] = true
 all (b ∷ bs) = b && all bs
 
+-- no number is as high as the count
 unfoldable pub below : ℕ → List ℕ → Bool
 below count ns = every (λ n. ltb n count) ns
 
@@ -66,6 +67,7 @@ agrees k id ks ids = eachRow (λ l i. not (eqb i id) || eqb l k) ks ids
 unfoldable pub consistent : List ℕ → List ℕ → List ℕ → List ℕ → Bool
 consistent ks ids ks′ ids′ = eachRow (λ k i. agrees k i ks′ ids′) ks ids
 
+-- the six preference lists
 unfoldable pub goodLists : List ℕ → List ℕ → List ℕ → List ℕ → List ℕ → List ℕ → Bool
 goodLists kex key certificate cipher mac compression =
     all
@@ -77,6 +79,7 @@ goodLists kex key certificate cipher mac compression =
     ∷ goodList Compression compression
     ∷ [])
 
+-- the two row tables, each by itself and the one beside the other
 unfoldable pub goodTables : List ℕ → List ℕ → List ℕ → List ℕ → Bool
 goodTables keys ids certs ids′ =
     all

@@ -1,4 +1,4 @@
-// Numbers picked out of the lent lists.
+// Numbers picked out of the lent lists, in their order. Each function is total, so that no caller owes it a proof.
 ghost use mathlib.Core.Path.{_≡_};
 ghost use mathlib.Core.Bool.{not, _&&_};
 ghost use mathlib.Core.List.{[]};
@@ -20,7 +20,7 @@ pub fn none() -> RowList
     }
 }
 
-// A full list stays as it is. None gets that far: certificate names each come from the key list, each once.
+// A full list stays as it is. None gets that far: the laws of proofs/RoomLaws.antt.
 pub fn push(list: RowList, number: u8, wanted: bool) -> RowList
     ensures { λ r. ⌜ r ≡ pick wanted (pushed list number) list ⌝ }
 {
@@ -95,6 +95,7 @@ pub fn held(kinds: &[u8], key: &[u8]) -> RowList
     list
 }
 
+// The first `len`, or all where there are fewer.
 pub fn front(rows: &[u8], len: usize) -> &[u8]
     ensures { λ r. ⌜ now r ≡ take len (now (rows .entry)) ⌝ }
 {
@@ -138,6 +139,7 @@ fn join_row(names: RowList, wanted: bool, kind: u8, key: &[u8]) -> RowList
     names
 }
 
+// The key numbers for which the server has a certificate. `held` are the identities of its keys.
 pub fn certified(key: &[u8], held: &[u32], kinds: &[u8], ids: &[u32]) -> RowList
     ensures { λ r. ⌜ r ≡ certified (rowList []) (now (key .entry)) (now (held .entry)) (now (kinds .entry)) (now (ids .entry)) ⌝ }
 {

@@ -9,6 +9,7 @@ use choice::Side;
 use names::Kind;
 use names::wide;
 
+// The most rows of a row table.
 const MOST_ROWS: usize = 8;
 
 // Ed25519, P256, P384, P521, RSA

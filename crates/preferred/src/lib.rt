@@ -10,10 +10,10 @@ pub use defaults::default_lists;
 pub use judge::valid;
 pub use make::own_lists;
 
-// Of a preference list.
+// The most entries of a preference list.
 pub const MOST_ENTRIES: usize = 16;
 
-// Of an own list: certificate names, then key names.
+// The most rows of an own list: certificate names, then key names.
 pub const MOST_OWN: usize = 2 * MOST_ENTRIES;
 
 // Rows of the name table, `len` of them, and 0 after them.

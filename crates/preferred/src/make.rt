@@ -8,7 +8,7 @@ ghost use Rattle.names.specs.Tables.{namesOf, firstRow};
 ghost use Rattle.names.specs.declared.Kind.the-variants.{Kex, Key, Certificate};
 ghost use Rattle.choice.specs.declared.Side.the-variants.{Client, Server};
 ghost use Rattle.preferred.specs.Tables.{goodList, valid, tables};
-ghost use Rattle.preferred.specs.Own.{without, held, certificates, rows, rowList, keysOf, noOwn, listsOf, ownOf, extensions, other};
+ghost use Rattle.preferred.specs.Own.{without, held, certificates, rows, rowList, keysOf, noOwn, ownOf, extensions, other};
 ghost use Rattle.preferred.specs.Made.{shown, joined};
 use super::Own;
 use super::RowList;
@@ -29,6 +29,7 @@ const CLIENT_NAMES: [u8; 2] = [9, 11];
 // ext-info-s, kex-strict-s-v00@openssh.com
 const SERVER_NAMES: [u8; 2] = [10, 12];
 
+// Those of both.
 const EXTENSIONS: [u8; 4] = [9, 11, 10, 12];
 
 fn row(kind: Kind, number: u8) -> u8
@@ -51,6 +52,7 @@ fn join_rows(list: RowList, kind: Kind, numbers: &[u8]) -> RowList
     l
 }
 
+// Kex names stand first in the name table, so that a kex number is its row.
 fn kex_written(side: Side, kex: &[u8]) -> RowList
     requires { ⌜ goodList Kex (now kex) ≡ true ⌝ }
     ensures { λ r. ⌜ r ≡ rowList (rows Kex (without (extensions (other side)) (now (kex .entry)))) ⌝ }
@@ -133,7 +135,8 @@ fn refused() -> Own
     }
 }
 
-fn made(
+// The lists of tables that are valid, or 9.
+pub fn own_lists(
     side: Side,
     kex: &[u8],
     key: &[u8],
@@ -146,9 +149,23 @@ fn made(
     cert_kinds: &[u8],
     cert_ids: &[u32],
 ) -> Own
-    requires { ⌜ valid (tables side (now kex) (now key) (now certificate) (now cipher) (now mac) (now compression) (now «key_kinds») (now «key_ids») (now «cert_kinds») (now «cert_ids»)) ≡ true ⌝ }
-    ensures { λ r. ⌜ r ≡ listsOf (tables side (now (kex .entry)) (now (key .entry)) (now (certificate .entry)) (now (cipher .entry)) (now (mac .entry)) (now (compression .entry)) (now («key_kinds» .entry)) (now («key_ids» .entry)) (now («cert_kinds» .entry)) (now («cert_ids» .entry))) ⌝ }
+    ensures { λ r. ⌜ r ≡ ownOf (tables side (now (kex .entry)) (now (key .entry)) (now (certificate .entry)) (now (cipher .entry)) (now (mac .entry)) (now (compression .entry)) (now («key_kinds» .entry)) (now («key_ids» .entry)) (now («cert_kinds» .entry)) (now («cert_ids» .entry))) ⌝ }
 {
+    if !valid(
+        side,
+        kex,
+        key,
+        certificate,
+        cipher,
+        mac,
+        compression,
+        key_kinds,
+        key_ids,
+        cert_kinds,
+        cert_ids,
+    ) {
+        return refused();
+    }
     Own {
         number: 0,
         kex_written: kex_written(side, kex),
@@ -166,50 +183,4 @@ fn made(
         mac: all_rows(Kind::Mac, mac),
         compression: all_rows(Kind::Compression, compression),
     }
-}
-
-// The lists of tables that are valid, or 9.
-pub fn own_lists(
-    side: Side,
-    kex: &[u8],
-    key: &[u8],
-    certificate: &[u8],
-    cipher: &[u8],
-    mac: &[u8],
-    compression: &[u8],
-    key_kinds: &[u8],
-    key_ids: &[u32],
-    cert_kinds: &[u8],
-    cert_ids: &[u32],
-) -> Own
-    ensures { λ r. ⌜ r ≡ ownOf (tables side (now (kex .entry)) (now (key .entry)) (now (certificate .entry)) (now (cipher .entry)) (now (mac .entry)) (now (compression .entry)) (now («key_kinds» .entry)) (now («key_ids» .entry)) (now («cert_kinds» .entry)) (now («cert_ids» .entry))) ⌝ }
-{
-    if valid(
-        side,
-        kex,
-        key,
-        certificate,
-        cipher,
-        mac,
-        compression,
-        key_kinds,
-        key_ids,
-        cert_kinds,
-        cert_ids,
-    ) {
-        return made(
-            side,
-            kex,
-            key,
-            certificate,
-            cipher,
-            mac,
-            compression,
-            key_kinds,
-            key_ids,
-            cert_kinds,
-            cert_ids,
-        );
-    }
-    refused()
 }

@@ -9,7 +9,7 @@ use borrow.Author.Tests.{leb-true, le-leb}
 use Rattle.text.specs.Utf8.{Range, within, rows, Wanted, bad, more, opened, next, octets, utf8}
 use Rattle.text.specs.Grammar.{Matches, end, byte, Octets, empty, char}
 use Rattle.text.proofs.TableLaws.{alike, count, span}
-use Rattle.text.proofs.SameLaws.{never, and-left, and-right}
+use Rattle.answer.proofs.Laws.{never, and-left, and-right}
 
 abbrev bytes : Range → List ℕ
 bytes r = count (r .low) (r .high + 1 - r .low)

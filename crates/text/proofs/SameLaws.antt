@@ -7,19 +7,8 @@ use native.Mathlib.Omega.{arith}
 use borrow.Author.Tests.{ltb-true, lt-ltb, eqb-true, eq-eqb}
 use lib.Dec.{eqb, ltb}
 use lib.ListN.{length}
+use Rattle.answer.proofs.Laws.{never, and-left, and-right}
 use Rattle.text.specs.Same.{same, highest, ascii}
-
--- equations that clash prove 0 ≡ 1 by `cc`, and so anything
-pub never : {G : Type 0} → _≡_ {A = ℕ} 0 1 → G
-never e = absurd (omega arith)
-
-pub and-left : (a b : Bool) → (a && b) ≡ true → a ≡ true
-and-left true b e = refl
-and-left false b e = e
-
-pub and-right : (a b : Bool) → (a && b) ≡ true → b ≡ true
-and-right true b e = e
-and-right false b e = never (cc)
 
 -- two tests are one if each holds where the other does
 tests : (a b : Bool) → (a ≡ true → b ≡ true) → (b ≡ true → a ≡ true) → a ≡ b

@@ -9,7 +9,8 @@ use borrow.Author.Tests.{ltb-true}
 use Rattle.text.specs.Same.{ascii, highest}
 use Rattle.text.specs.Utf8.{more, opened, rows, next, octets, utf8}
 use Rattle.text.proofs.TableLaws.{span}
-use Rattle.text.proofs.SameLaws.{and-left, and-right, low-ascii}
+use Rattle.text.proofs.SameLaws.{low-ascii}
+use Rattle.answer.proofs.Laws.{and-left, and-right}
 
 one-byte : (b : ℕ) → b < 128 → next (more []) b ≡ more []
 unfolding next rows

@@ -6,3 +6,4 @@ pub mod CutLaws
 pub mod JudgeLaws
 pub mod UniqueLaws
 pub mod BackLaws
+pub mod StepLaws

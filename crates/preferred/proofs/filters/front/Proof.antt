@@ -4,17 +4,12 @@ use Rattle.preferred.proofs.MadeLaws.{front-all}
 use borrow.Author.Needs.{needs}
 use Rattle.preferred.proofs.filters.front.Statement.{statement}
 use Rattle.preferred.proofs.filters.front.Tie as tie
-use Rattle.preferred.proofs.filters.front.Reads as reads
-use Rattle.preferred.proofs.filters.front.Lts as lts
 
 slice-aggregate-result : tie.Need-slice-aggregate-result
 slice-aggregate-result c = simp length-take (omega arith)
-
-returns : tie.Need-returns
-returns c = search needs
 
 returns-2 : tie.Need-returns-2
 returns-2 c = search front-all
 
 pub front-spec : {M : Type 1} → statement M
-front-spec = tie.close (tie.spec slice-aggregate-result returns returns-2)
+front-spec = tie.close (tie.spec slice-aggregate-result (λ c. search needs) returns-2)

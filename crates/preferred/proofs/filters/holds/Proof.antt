@@ -6,8 +6,6 @@ use Rattle.preferred.proofs.MadeLaws.{member-laws}
 use borrow.Author.Needs.{needs}
 use Rattle.preferred.proofs.filters.holds.Statement.{statement}
 use Rattle.preferred.proofs.filters.holds.Tie as tie
-use Rattle.preferred.proofs.filters.holds.Reads as reads
-use Rattle.preferred.proofs.filters.holds.Lts as lts
 
 abbrev Inv-loop : tie.InvT-loop
 Inv-loop id ids i₀ i = member id ids ≡ member id (drop i ids)
@@ -15,23 +13,8 @@ Inv-loop id ids i₀ i = member id ids ≡ member id (drop i ids)
 abbrev μ-loop : tie.MeasureT-loop
 μ-loop id ids i₀ i = length ids - i
 
-loop-holds : tie.Need-loop-holds Inv-loop μ-loop
-loop-holds c = search needs
-
-mul-if1 : tie.Need-mul-if1 Inv-loop μ-loop
-mul-if1 c = search needs
-
-shared-slice-read-if1 : tie.Need-shared-slice-read-if1 Inv-loop μ-loop
-shared-slice-read-if1 c = search needs
-
 returns : tie.Need-returns Inv-loop μ-loop
 returns c = search member-laws
-
-add-i : tie.Need-add-i Inv-loop μ-loop
-add-i c = search needs
-
-loop-less : tie.Need-loop-less Inv-loop μ-loop
-loop-less c = search needs
 
 loop-again : tie.Need-loop-again Inv-loop μ-loop
 loop-again c = search member-laws
@@ -45,11 +28,11 @@ holds-spec =
     (tie.spec
     Inv-loop
     μ-loop
-    loop-holds
-    mul-if1
-    shared-slice-read-if1
+    (λ c. search needs)
+    (λ c. search needs)
+    (λ c. search needs)
     returns
-    add-i
-    loop-less
+    (λ c. search needs)
+    (λ c. search needs)
     loop-again
     returns-2)

@@ -1,8 +1,6 @@
 use Rattle.preferred.proofs.MadeLaws.{kind-rsa, kind-own}
 use Rattle.preferred.proofs.filters.kind_of.Statement.{statement}
 use Rattle.preferred.proofs.filters.kind_of.Tie as tie
-use Rattle.preferred.proofs.filters.kind_of.Reads as reads
-use Rattle.preferred.proofs.filters.kind_of.Lts as lts
 
 returns : tie.Need-returns
 returns c = search kind-rsa

@@ -6,8 +6,6 @@ use Rattle.preferred.proofs.MadeLaws.{member-laws}
 use borrow.Author.Needs.{needs}
 use Rattle.preferred.proofs.filters.member.Statement.{statement}
 use Rattle.preferred.proofs.filters.member.Tie as tie
-use Rattle.preferred.proofs.filters.member.Reads as reads
-use Rattle.preferred.proofs.filters.member.Lts as lts
 
 abbrev Inv-loop : tie.InvT-loop
 Inv-loop number list i₀ i = member number list ≡ member number (drop i list)
@@ -15,20 +13,8 @@ Inv-loop number list i₀ i = member number list ≡ member number (drop i list)
 abbrev μ-loop : tie.MeasureT-loop
 μ-loop number list i₀ i = length list - i
 
-loop-holds : tie.Need-loop-holds Inv-loop μ-loop
-loop-holds c = search needs
-
-shared-slice-read-if1 : tie.Need-shared-slice-read-if1 Inv-loop μ-loop
-shared-slice-read-if1 c = search needs
-
 returns : tie.Need-returns Inv-loop μ-loop
 returns c = search member-laws
-
-add-i : tie.Need-add-i Inv-loop μ-loop
-add-i c = search needs
-
-loop-less : tie.Need-loop-less Inv-loop μ-loop
-loop-less c = search needs
 
 loop-again : tie.Need-loop-again Inv-loop μ-loop
 loop-again c = search member-laws
@@ -42,10 +28,10 @@ member-spec =
     (tie.spec
     Inv-loop
     μ-loop
-    loop-holds
-    shared-slice-read-if1
+    (λ c. search needs)
+    (λ c. search needs)
     returns
-    add-i
-    loop-less
+    (λ c. search needs)
+    (λ c. search needs)
     loop-again
     returns-2)

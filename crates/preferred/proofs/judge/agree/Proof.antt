@@ -1,8 +1,6 @@
 use Rattle.preferred.proofs.JudgeLaws.{agree-laws}
 use Rattle.preferred.proofs.judge.agree.Statement.{statement}
 use Rattle.preferred.proofs.judge.agree.Tie as tie
-use Rattle.preferred.proofs.judge.agree.Reads as reads
-use Rattle.preferred.proofs.judge.agree.Lts as lts
 
 returns : tie.Need-returns
 returns c = search agree-laws

@@ -6,9 +6,6 @@ use Rattle.preferred.proofs.JudgeLaws.{below-laws}
 use borrow.Author.Needs.{needs}
 use Rattle.preferred.proofs.judge.below.Statement.{statement}
 use Rattle.preferred.proofs.judge.below.Tie as tie
-use Rattle.preferred.proofs.judge.below.Reads as reads
-use Rattle.preferred.proofs.judge.below.Lts as lts
-use Rattle.preferred.proofs.judge.lies.Reads as lies-reads
 
 abbrev Inv-loop : tie.InvT-loop
 Inv-loop numbers count i₀ i = below count numbers ≡ below count (drop i numbers)
@@ -16,23 +13,8 @@ Inv-loop numbers count i₀ i = below count numbers ≡ below count (drop i numb
 abbrev μ-loop : tie.MeasureT-loop
 μ-loop numbers count i₀ i = length numbers - i
 
-loop-holds : tie.Need-loop-holds Inv-loop μ-loop
-loop-holds c = search needs
-
-shared-slice-read-lies : tie.Need-shared-slice-read-lies Inv-loop μ-loop
-shared-slice-read-lies c = search needs
-
-lies-requires : tie.Need-lies-requires Inv-loop μ-loop
-lies-requires c κs = search needs
-
 returns : tie.Need-returns Inv-loop μ-loop
 returns c = search below-laws
-
-add-i : tie.Need-add-i Inv-loop μ-loop
-add-i c = search needs
-
-loop-less : tie.Need-loop-less Inv-loop μ-loop
-loop-less c = search needs
 
 loop-again : tie.Need-loop-again Inv-loop μ-loop
 loop-again c = search below-laws
@@ -46,11 +28,11 @@ below-spec =
     (tie.spec
     Inv-loop
     μ-loop
-    loop-holds
-    shared-slice-read-lies
-    lies-requires
+    (λ c. search needs)
+    (λ c. search needs)
+    (λ c κs. search needs)
     returns
-    add-i
-    loop-less
+    (λ c. search needs)
+    (λ c. search needs)
     loop-again
     returns-2)

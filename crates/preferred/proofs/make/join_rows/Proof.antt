@@ -7,10 +7,6 @@ use Rattle.preferred.proofs.MadeLaws.{rows-laws}
 use borrow.Author.Needs.{needs}
 use Rattle.preferred.proofs.make.join_rows.Statement.{statement}
 use Rattle.preferred.proofs.make.join_rows.Tie as tie
-use Rattle.preferred.proofs.make.join_rows.Reads as reads
-use Rattle.preferred.proofs.make.join_rows.Lts as lts
-use Rattle.preferred.proofs.filters.push.Reads as push-reads
-use Rattle.preferred.proofs.make.row.Reads as row-reads
 
 abbrev Inv-loop : tie.InvT-loop
 Inv-loop kind numbers l₀ i₀ l i = joined l₀ (rows kind numbers) ≡ joined l (rows kind (drop i numbers))
@@ -18,23 +14,8 @@ Inv-loop kind numbers l₀ i₀ l i = joined l₀ (rows kind numbers) ≡ joined
 abbrev μ-loop : tie.MeasureT-loop
 μ-loop kind numbers l₀ i₀ l i = length numbers - i
 
-loop-holds : tie.Need-loop-holds Inv-loop μ-loop
-loop-holds c = search needs
-
-shared-slice-read-row : tie.Need-shared-slice-read-row Inv-loop μ-loop
-shared-slice-read-row c = search needs
-
 row-requires : tie.Need-row-requires Inv-loop μ-loop
 row-requires c κs = search rows-laws
-
-push-requires : tie.Need-push-requires Inv-loop μ-loop
-push-requires c κs = search needs
-
-add-i : tie.Need-add-i Inv-loop μ-loop
-add-i c = search needs
-
-loop-less : tie.Need-loop-less Inv-loop μ-loop
-loop-less c = search needs
 
 loop-again : tie.Need-loop-again Inv-loop μ-loop
 loop-again c = search rows-laws
@@ -48,11 +29,11 @@ join-rows-spec =
     (tie.spec
     Inv-loop
     μ-loop
-    loop-holds
-    shared-slice-read-row
+    (λ c. search needs)
+    (λ c. search needs)
     row-requires
-    push-requires
-    add-i
-    loop-less
+    (λ c κs. search needs)
+    (λ c. search needs)
+    (λ c. search needs)
     loop-again
     returns)

@@ -1,0 +1,5 @@
+pub mod RunLaws
+pub mod TableLaws
+pub mod KexLaws
+pub mod WrittenLaws
+pub mod ExampleLaws
