@@ -1,5 +1,8 @@
 // The choice (RFC 4253 section 7.1): the client's first name that the server lists. `Select::select` of
 // src/negotiation.rs, with a side flag for its two implementations. The peer's list is walked once at either side.
+//
+// Copyright 2016 Pierre-Étienne Meunier, licensed under the Apache License, Version 2.0 (NOTICE); changed: rewritten for
+// lent slices and tables of numbers.
 ghost use mathlib.Core.Path.{_≡_};
 ghost use Prim.Native.Nat.{_+_, _≤_};
 ghost use lib.ListN.{length};

@@ -1,5 +1,8 @@
 // Clear packets (RFC 4253 section 6): `read` and `write` of src/cipher/mod.rs over lent slices, with counters by value.
 // The traits OpeningKey and SealingKey are the functions that src/cipher/clear.rs gives them.
+//
+// Copyright 2016 Pierre-Étienne Meunier, licensed under the Apache License, Version 2.0 (NOTICE); changed: rewritten for
+// lent slices and tables of numbers.
 ghost use mathlib.Core.Path.{_≡_};
 ghost use Rattle.wire.specs.Answers.{checked};
 ghost use Rattle.framing.specs.Clear.{judgedLength, judgedPadding, counted};

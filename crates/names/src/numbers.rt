@@ -1,4 +1,7 @@
 // A name's number in its kind.
+//
+// Copyright 2016 Pierre-Étienne Meunier, licensed under the Apache License, Version 2.0 (NOTICE); changed: rewritten for
+// lent slices and tables of numbers.
 ghost use mathlib.Core.Path.{_≡_};
 ghost use Rattle.names.specs.Tables.{firstRow};
 ghost use Rattle.names.specs.Lookup.{numberOf, found, row, onward};

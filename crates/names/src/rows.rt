@@ -1,5 +1,8 @@
 // Rows of three columns: spellings, where each row starts in them, and how long it is. Every function is total over any
 // three slices, so what lends the constants of `tables` may stand far above, once for many look-ups.
+//
+// Copyright 2016 Pierre-Étienne Meunier, licensed under the Apache License, Version 2.0 (NOTICE); changed: rewritten for
+// lent slices and tables of numbers.
 ghost use mathlib.Core.Bool.{false};
 ghost use mathlib.Core.Path.{_≡_};
 ghost use Prim.Native.Nat.{_-_, _≤_};

@@ -1,4 +1,7 @@
 // A number's name, written.
+//
+// Copyright 2016 Pierre-Étienne Meunier, licensed under the Apache License, Version 2.0 (NOTICE); changed: rewritten for
+// lent slices and tables of numbers.
 ghost use mathlib.Core.Path.{_≡_};
 ghost use Rattle.put.specs.Written.{written, buffer, put};
 ghost use Rattle.names.specs.Spelled.{spelled};

@@ -1,5 +1,8 @@
 // The one table of names, as columns. A name's row is its place here: the kinds stand one after the other.
 // A row's spelling is the LENGTHS[row] bytes of SPELLINGS from STARTS[row] on.
+//
+// Copyright 2016 Pierre-Étienne Meunier, licensed under the Apache License, Version 2.0 (NOTICE); changed: rewritten for
+// lent slices and tables of numbers.
 pub const SPELLINGS: [u8; 902] = *b"\
     mlkem768x25519-sha256\
     curve25519-sha256\

@@ -1,4 +1,7 @@
 // `read_kex` of the Rust, for both sides: a side flag for the trait's two implementations.
+//
+// Copyright 2016 Pierre-Étienne Meunier, licensed under the Apache License, Version 2.0 (NOTICE); changed: rewritten for
+// lent slices and tables of numbers.
 ghost use mathlib.Core.Path.{_≡_};
 ghost use Prim.Native.Nat.{_≤_};
 ghost use lib.ListN.{length};

@@ -1,4 +1,7 @@
 // Reading a KEXINIT stage by stage, fields and choices alternating as in `read_kex` of the Rust.
+//
+// Copyright 2016 Pierre-Étienne Meunier, licensed under the Apache License, Version 2.0 (NOTICE); changed: rewritten for
+// lent slices and tables of numbers.
 ghost use mathlib.Core.Path.{_≡_};
 ghost use mathlib.Core.Bool.{not};
 ghost use Prim.Native.Nat.{_-_};

@@ -1,4 +1,7 @@
 // The lists of `Preferred::DEFAULT` (src/negotiation.rs): for a caller to lend, in part or whole.
+//
+// Copyright 2016 Pierre-Étienne Meunier, licensed under the Apache License, Version 2.0 (NOTICE); changed: rewritten for
+// lent slices and tables of numbers.
 ghost use mathlib.Core.Path.{_≡_};
 ghost use Rattle.preferred.specs.Own.{ownOf};
 ghost use Rattle.preferred.specs.Defaults.{defaults};

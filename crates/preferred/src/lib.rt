@@ -1,5 +1,8 @@
 // The local tables (document 01): what they may be, and the lists that this side writes and chooses from. `Preferred`,
 // `server_certificate_names` and `possible_host_key_algos_for_keys` of src/negotiation.rs.
+//
+// Copyright 2016 Pierre-Étienne Meunier, licensed under the Apache License, Version 2.0 (NOTICE); changed: rewritten for
+// lent slices and tables of numbers.
 
 pub mod defaults;
 mod filters;
