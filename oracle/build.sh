@@ -52,7 +52,7 @@ rustc --edition 2024 -O --crate-type rlib --crate-name russh --cfg 'feature="rin
     --out-dir "$target/lib" "$tree/lib.rs" --cap-lints allow $(externs)
 lib cases "$here/cases/lib.rs" rlib
 lib model "$here/model/lib.rs" rlib
-for name in compare; do
+for name in compare record mutants; do
     rustc --edition 2024 -O --crate-type bin --crate-name $name -L "$target/lib" -o "$target/$name" "$here/src/$name.rs" $(externs)
 done
 echo "oracle: 16 files as in SHA256SUMS, built"

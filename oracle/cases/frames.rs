@@ -88,6 +88,12 @@ pub fn read(r: &mut Rng) -> Case {
 }
 
 pub fn write(r: &mut Rng) -> Case {
-    let n = if r.once_in(200) { r.below(262168) } else { r.below(600) };
-    Case::FrameWrite { payload: r.bytes(n), counters: counters(r) }
+    let payload = match r.below(200) {
+        0 => vec![r.byte(); r.below(262168)],
+        _ => {
+            let n = r.below(600);
+            r.bytes(n)
+        }
+    };
+    Case::FrameWrite { payload, counters: counters(r) }
 }

@@ -43,12 +43,13 @@ impl Fields {
 }
 
 fn numbers(r: &mut Rng, count: usize) -> Vec<u8> {
-    let most = match r.below(4) {
-        0 => 1,
-        1 => 4,
-        _ => 16,
+    let n = match r.below(12) {
+        0 => r.below(2),
+        1 => r.below(5),
+        2..5 => 16,
+        _ => 4 + r.below(13),
     };
-    (0..r.below(most + 1)).map(|_| r.below(count) as u8).collect()
+    (0..n).map(|_| r.below(count) as u8).collect()
 }
 
 pub fn side(r: &mut Rng) -> Side {
@@ -110,19 +111,20 @@ pub fn pair(r: &mut Rng) -> Vec<Case> {
 /// lists as peers may send them
 pub fn fields(r: &mut Rng) -> Fields {
     let mut lists: [Vec<u8>; 10] = Default::default();
+    let odd = r.once_in(2);
     for (field, pool) in lists.iter_mut().zip(POOLS) {
-        *field = list(r, pool);
+        *field = list(r, pool, odd);
     }
     for field in [3, 8, 9] {
-        if r.once_in(if field == 3 { 8 } else { 3 }) {
-            lists[field] = r.of(TEXTS).to_vec();
+        if r.once_in(3) {
+            lists[field] = if odd { *r.of(TEXTS) } else { TEXTS[r.below(10)] }.to_vec();
         }
     }
     Fields {
         lists,
         follows: *r.of(&[0, 0, 1, 1, 2, 255]),
         reserved: r.number(),
-        tail: if r.once_in(16) { r.bytes(1) } else { vec![] },
+        tail: if odd && r.once_in(8) { r.bytes(1) } else { vec![] },
     }
 }
 

@@ -99,21 +99,21 @@ pub const TEXTS: &[&[u8]] = &[
     b"\xE2\x82",
 ];
 
-/// a list from a pool: mostly names in any order, sometimes repeated, rarely odd
-pub fn list(r: &mut Rng, pool: &[&str]) -> Vec<u8> {
-    let most = if r.once_in(3) { 2 } else { pool.len() + 2 };
+/// a list from a pool: names in any order, sometimes repeated; if `odd`, sometimes with what a list may not hold
+pub fn list(r: &mut Rng, pool: &[&str], odd: bool) -> Vec<u8> {
+    let most = if r.once_in(6) { 2 } else { 2 * pool.len() };
     let mut names: Vec<Vec<u8>> = (0..r.below(most + 1)).map(|_| r.of(pool).as_bytes().to_vec()).collect();
-    if r.once_in(12) {
+    if odd && r.once_in(12) {
         let odd: &[&[u8]] = &[b"", b"\xC3\xA9", b"\xFF", b"a\x80", b" none", b"none ", b"NONE", b"non", b"nonee", b"\0"];
         let at = r.below(names.len() + 1);
         names.insert(at, r.of(odd).to_vec());
     }
     let mut list = names.join(&b',');
     match r.below(40) {
-        0..4 => list.push(b','),
-        4 => list.extend(b",,"),
-        5 => list.insert(0, b','),
-        6 => list = b",".to_vec(),
+        0..4 if !list.is_empty() => list.push(b','),
+        4 if odd => list.extend(b",,"),
+        5 if odd => list.insert(0, b','),
+        6 if odd => list = b",".to_vec(),
         _ => {}
     }
     list

@@ -1,5 +1,5 @@
 //! The model (our definitions, in Rust) against the oracle (the Rust's text), case by case.
-//!   compare N [FOLDER OF CAPTURES]
+//!   compare N FOLDER-OF-CAPTURES [first]      first: ends at the first disagreement
 
 use cases::kex::Fields;
 use cases::rng::Rng;
@@ -73,6 +73,7 @@ fn modelled(case: &Case) -> Answer {
 
 #[derive(Default)]
 struct Tally {
+    first: bool,
     cases: BTreeMap<&'static str, BTreeMap<String, u64>>,
     /// by function and the two answers: how many, and the smallest case
     disagreements: BTreeMap<(String, String, String), (u64, Option<Case>)>,
@@ -84,11 +85,17 @@ impl Tally {
         *self.cases.entry(case.function()).or_default().entry(theirs.sort()).or_default() += 1;
         if theirs != ours {
             let key = (case.function().to_string(), theirs.sort(), ours.sort());
-            let small = smaller(case.clone(), &key);
-            let (count, kept) = self.disagreements.entry(key).or_default();
+            let (count, kept) = self.disagreements.entry(key.clone()).or_default();
             *count += 1;
-            if kept.as_ref().is_none_or(|k| small.size() < k.size()) {
-                *kept = Some(small);
+            if *count < 20 || kept.as_ref().is_none_or(|k| case.size() < k.size()) {
+                let small = smaller(case.clone(), &key);
+                if kept.as_ref().is_none_or(|k| small.size() < k.size()) {
+                    *kept = Some(small);
+                }
+            }
+            if self.first {
+                println!("disagreement: {}", lines::case(kept.as_ref().expect("kept")));
+                std::process::exit(1);
             }
         }
     }
@@ -219,8 +226,9 @@ fn captures(folder: &str) -> Vec<Case> {
 
 fn main() {
     let mut args = std::env::args().skip(1);
-    let n: usize = args.next().map_or(200_000, |a| a.parse().expect("N is a number"));
+    let n: usize = args.next().map_or(500_000, |a| a.parse().expect("N is a number"));
     let folder = args.next().unwrap_or_default();
+    let mut tally = Tally { first: args.next().is_some(), ..Tally::default() };
     let mut failed = false;
 
     println!("The rows of docs/DIFFERENCES.md that the Rust's text shows when it is run:");
@@ -235,7 +243,6 @@ fn main() {
     }
     println!("  the default tables are Preferred::DEFAULT's");
 
-    let mut tally = Tally::default();
     tally.try_all("document 01's tried bytes", cases::tried().into_iter());
     tally.try_all("real first packets", captures(&folder).into_iter());
     tally.try_all("short packets: every length to 40, padding and slice", frames::short(40));
