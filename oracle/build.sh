@@ -26,7 +26,7 @@ done < "$here/SHA256SUMS"
     echo "oracle: the text differs from SHA256SUMS: nothing is built" >&2
     exit 1
 }
-cp "$here/src/door.rs" "$tree/door.rs"
+cp -r "$here/src/door" "$tree/door"
 
 lib() { # NAME FILE TYPE
     rustc --edition 2024 -O --crate-type "$3" --crate-name "$1" -L "$target/lib" --out-dir "$target/lib" "$2" \

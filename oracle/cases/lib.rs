@@ -1,6 +1,7 @@
 //! Cases: what is asked of the oracle and of the model, made with fixed seeds.
 
 pub mod channels;
+pub mod exhaustive;
 pub mod frames;
 pub mod kex;
 pub mod lines;

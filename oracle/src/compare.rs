@@ -3,7 +3,7 @@
 
 use cases::kex::Fields;
 use cases::rng::Rng;
-use cases::{Answer, Case, NUMBERS, channels, frames, kex, lines};
+use cases::{Answer, Case, NUMBERS, channels, exhaustive, frames, kex, lines};
 use model::{channels as mc, framing, negotiation, preferred, wire};
 use plain::{ChannelType, Opening, Out, Read, Side, Tables, Tcp};
 use russh::door;
@@ -239,7 +239,8 @@ fn main() {
     }
     let _ = std::panic::take_hook();
     for side in [Side::Client, Side::Server] {
-        assert_eq!(door::defaults(side, &[], &[], &[], &[]), preferred::defaults(side, &[], &[], &[], &[]), "default tables");
+        let (theirs, ours) = (door::defaults(side, &[], &[], &[], &[]), preferred::defaults(side, &[], &[], &[], &[]));
+        assert_eq!(theirs, ours, "default tables");
     }
     println!("  the default tables are Preferred::DEFAULT's");
 
@@ -247,9 +248,9 @@ fn main() {
     tally.try_all("real first packets", captures(&folder).into_iter());
     tally.try_all("short packets: every length to 40, padding and slice", frames::short(40));
     tally.try_all("packets at their limits", frames::limits().into_iter());
-    tally.try_all("KEXINITs at their limits", kex::limits().into_iter());
-    tally.try_all("all small choices", kex::small_choices().into_iter());
-    tally.try_all("all small lists in every field", kex::small_lists().into_iter());
+    tally.try_all("KEXINITs at their limits", exhaustive::limits().into_iter());
+    tally.try_all("all small choices", exhaustive::small_choices().into_iter());
+    tally.try_all("all small lists in every field", exhaustive::small_lists().into_iter());
     tally.try_all("channel bodies at their limits", channels::limits().into_iter());
     tally.try_all("UTF-8 in a channel type", channels::utf8());
     println!("random cases, seed {SEED:#x} and the family's number, {n} each:");
@@ -259,7 +260,8 @@ fn main() {
         Rng::new(SEED + family)
     };
     let mut r = rng();
-    tally.try_all("1: pairs written by the Rust, read, and read damaged", (0..n.div_ceil(6)).flat_map(|_| kex::pair(&mut r)));
+    let pairs = (0..n.div_ceil(6)).flat_map(|_| kex::pair(&mut r));
+    tally.try_all("1: pairs written by the Rust, read, and read damaged", pairs);
     for (what, make) in [
         ("2: KEXINITs put together by hand", kex::by_hand as fn(&mut Rng) -> Case),
         ("3: packets read", frames::read),

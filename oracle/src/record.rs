@@ -2,7 +2,7 @@
 //!   record OUT N [FOLDER OF CAPTURES]
 
 use cases::rng::Rng;
-use cases::{Case, NUMBERS, channels, frames, kex, lines};
+use cases::{Case, NUMBERS, channels, exhaustive, frames, kex, lines};
 use std::collections::BTreeMap;
 use std::io::{BufWriter, Result, Write};
 
@@ -50,9 +50,9 @@ fn main() -> Result<()> {
     }
     record.all("short packets", frames::short(12).filter(few))?;
     record.all("packets at their limits", frames::limits())?;
-    record.all("KEXINITs at their limits", kex::limits())?;
-    record.all("small choices", kex::small_choices().into_iter().step_by(37))?;
-    record.all("small lists", kex::small_lists().into_iter().step_by(41))?;
+    record.all("KEXINITs at their limits", exhaustive::limits())?;
+    record.all("small choices", exhaustive::small_choices().into_iter().step_by(37))?;
+    record.all("small lists", exhaustive::small_lists().into_iter().step_by(41))?;
     record.all("channel bodies at their limits", channels::limits())?;
     record.all("UTF-8", channels::utf8().step_by(211))?;
     let mut r = Rng::new(SEED + 1);

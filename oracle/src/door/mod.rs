@@ -8,14 +8,20 @@ use std::pin::pin;
 use std::task::{Context, Poll, Waker};
 
 use plain::{ChannelType as Typ, Confirmation, Counters, Names, Opening, Out, Read, Side, Tables, Tcp};
-use ssh_key::{Algorithm, Certificate, EcdsaCurve, HashAlg, PrivateKey};
+use ssh_key::{Algorithm, Certificate, PrivateKey};
 
 use crate::cipher::SealingKey;
 use crate::kex::KexCause;
 use crate::negotiation::{self, Client, Preferred, Select, Server};
 use crate::parsing::{ChannelOpenConfirmation, ChannelType, OpenChannelMessage, TcpChannelInfo};
 use crate::sshbuffer::{PacketWriter, SSHBuffer};
-use crate::{AlgorithmKind, CryptoVec, Error, cipher, compression, kex, mac, server};
+use crate::{AlgorithmKind, CryptoVec, Error, cipher, server};
+use names::{CIPHER, COMPRESSION, KEX, KEY, KIND, MAC, compression_number, named, place};
+
+mod differences;
+mod names;
+
+pub use differences::differences;
 
 /// The Rust's errors and document 01's numbers.
 fn number(error: Error) -> u8 {
@@ -32,76 +38,6 @@ fn number(error: Error) -> u8 {
         Error::NoCommonAlgo { kind: AlgorithmKind::Mac, .. } => 13,
         Error::NoCommonAlgo { kind: AlgorithmKind::Compression, .. } => 14,
         other => panic!("document 01 has no number for {other:?}"),
-    }
-}
-
-// Names and their numbers: a name's number is its place.
-
-const KEX: [kex::Name; 13] = [
-    kex::MLKEM768X25519_SHA256,
-    kex::CURVE25519,
-    kex::CURVE25519_PRE_RFC_8731,
-    kex::DH_GEX_SHA256,
-    kex::DH_G18_SHA512,
-    kex::DH_G17_SHA512,
-    kex::DH_G16_SHA512,
-    kex::DH_G15_SHA512,
-    kex::DH_G14_SHA256,
-    kex::EXTENSION_SUPPORT_AS_CLIENT,
-    kex::EXTENSION_SUPPORT_AS_SERVER,
-    kex::EXTENSION_OPENSSH_STRICT_KEX_AS_CLIENT,
-    kex::EXTENSION_OPENSSH_STRICT_KEX_AS_SERVER,
-];
-
-const KEY: [Algorithm; 7] = [
-    Algorithm::Ed25519,
-    Algorithm::Ecdsa { curve: EcdsaCurve::NistP256 },
-    Algorithm::Ecdsa { curve: EcdsaCurve::NistP384 },
-    Algorithm::Ecdsa { curve: EcdsaCurve::NistP521 },
-    Algorithm::Rsa { hash: Some(HashAlg::Sha512) },
-    Algorithm::Rsa { hash: Some(HashAlg::Sha256) },
-    Algorithm::Rsa { hash: None },
-];
-
-/// Ed25519, P256, P384, P521, RSA: a key itself has no hash
-const KIND: [Algorithm; 5] = [
-    Algorithm::Ed25519,
-    Algorithm::Ecdsa { curve: EcdsaCurve::NistP256 },
-    Algorithm::Ecdsa { curve: EcdsaCurve::NistP384 },
-    Algorithm::Ecdsa { curve: EcdsaCurve::NistP521 },
-    Algorithm::Rsa { hash: None },
-];
-
-const CIPHER: [cipher::Name; 11] = [
-    cipher::CLEAR,
-    cipher::NONE,
-    cipher::AES_128_CTR,
-    cipher::AES_192_CTR,
-    cipher::AES_256_CTR,
-    cipher::AES_128_GCM,
-    cipher::AES_256_GCM,
-    cipher::AES_128_CBC,
-    cipher::AES_192_CBC,
-    cipher::AES_256_CBC,
-    cipher::CHACHA20_POLY1305,
-];
-
-const MAC: [mac::Name; 5] =
-    [mac::NONE, mac::HMAC_SHA512_ETM, mac::HMAC_SHA256_ETM, mac::HMAC_SHA512, mac::HMAC_SHA256];
-
-const COMPRESSION: [compression::Name; 1] = [compression::NONE];
-
-fn named<T: Clone>(table: &[T], numbers: &[u8]) -> Vec<T> {
-    numbers.iter().map(|&n| table[n as usize].clone()).collect()
-}
-
-fn place<T: PartialEq>(table: &[T], entry: &T) -> u8 {
-    table.iter().position(|e| e == entry).expect("a chosen name is one of the table's") as u8
-}
-
-fn compression_number(c: &compression::Compression) -> u8 {
-    match c {
-        compression::Compression::None => 0,
     }
 }
 
@@ -329,40 +265,4 @@ pub fn defaults(side: Side, key_kinds: &[u8], key_ids: &[u32], cert_kinds: &[u8]
         cert_kinds: cert_kinds.to_vec(),
         cert_ids: cert_ids.to_vec(),
     }
-}
-
-/// What the Rust does where docs/DIFFERENCES.md says that we do otherwise: each row shown by running the text.
-pub fn differences() -> Vec<(&'static str, bool)> {
-    let mut rows = Vec::new();
-
-    let mut wrapping = buffer(Counters { seqn: u32::MAX, bytes: u64::MAX });
-    let added = std::panic::catch_unwind(move || {
-        cipher::clear::Key.write(&[1], &mut wrapping);
-        wrapping.bytes
-    });
-    rows.push(("X1: the writer's byte count is added to plainly, past its largest value", added.ok() != Some(usize::MAX)));
-
-    let mut writer = PacketWriter::clear();
-    writer.packet_raw(&[]).expect("nothing is refused");
-    rows.push(("C10, X2: the packet writer writes nothing for an empty payload", writer.buffer().buffer.is_empty()));
-
-    writer.packet_raw(&[1, 2, 3]).expect("nothing is refused");
-    let before = writer.bytes_written();
-    writer.set_cipher(Box::new(cipher::clear::Key));
-    rows.push(("C9, X3: installing a cipher sets the byte count to 0", before == 3 && writer.bytes_written() == 0));
-
-    let mut refused = buffer(Counters { seqn: 0, bytes: 0 });
-    let mut stream = Slice { bytes: &[0, 0, 0, 1, 2], taken: 0, wanted: 0 };
-    let answer = block_on(cipher::read(&mut stream, &mut refused, &mut cipher::clear::Key));
-    rows.push((
-        "C11, X4: after 7 the announced length stays set",
-        matches!(answer, Err(Error::IndexOutOfBounds)) && refused.len == 1,
-    ));
-
-    let kex = ["ext-info-c", "ext-info-s", "kex-strict-c-v00@openssh.com", "kex-strict-s-v00@openssh.com"];
-    rows.push(("C1: no extension name is one that kex::Name::try_from knows", kex.iter().all(|n| kex::Name::try_from(*n).is_err())));
-
-    let known = ["diffie-hellman-group14-sha1", "ecdh-sha2-nistp256", "none"];
-    rows.push(("X8: the Rust knows kex names that are unknown here", known.iter().all(|n| kex::Name::try_from(*n).is_ok())));
-    rows
 }
