@@ -1,0 +1,124 @@
+//! crates/negotiation/specs: Read, Written
+
+use crate::answer::{Out, guard, refuse};
+use crate::choice::{bothFirst, chosen, listed};
+use crate::names::{Kind, needMac, numberOf, spelled};
+use crate::preferred::{cipherList, compressionList, keyList, kexChosen, kexWritten, macList, strictName, valid};
+use crate::put;
+use crate::wire::{At, byte, cut, end, here, join, nameList, string, word};
+use plain::{Names, Tables};
+
+type Name = Vec<u8>;
+
+pub const MOST_PAYLOAD: usize = 262176;
+
+/// a name-list field, as its names
+fn offer(c: At) -> Out<(Vec<Name>, At)> {
+    let (t, d) = nameList(c)?;
+    Ok((cut(t.bytes), d))
+}
+
+fn settle(n: u8, name: Option<Name>) -> Out<Name> {
+    match name {
+        None => refuse(n),
+        Some(name) => Ok(name),
+    }
+}
+
+fn number(k: Kind, name: &[u8]) -> u8 {
+    numberOf(k, name).unwrap_or(0)
+}
+
+fn needsMac(cipher: &[u8]) -> bool {
+    needMac(number(Kind::Cipher, cipher))
+}
+
+fn settleMac(cipher: &[u8], mac: Option<Name>) -> Out<Name> {
+    match mac {
+        None if needsMac(cipher) => refuse(13),
+        None => Ok(b"none".to_vec()),
+        Some(mac) if needsMac(cipher) && mac == b"none" => refuse(13),
+        Some(mac) => Ok(mac),
+    }
+}
+
+fn strict(t: &Tables, rekey: bool, peer: &[Name]) -> bool {
+    t.kex.contains(&strictName(t.side)) && listed(&spelled(Kind::Kex, strictName(t.side.other())), peer) || rekey
+}
+
+fn isCertificate(name: &[u8]) -> bool {
+    numberOf(Kind::Certificate, name).is_some()
+}
+
+fn keyNumber(name: &[u8]) -> u8 {
+    number(if isCertificate(name) { Kind::Certificate } else { Kind::Key }, name)
+}
+
+pub fn readKex(t: &Tables, rekey: bool, p: &[u8]) -> Out<Names> {
+    guard(9, valid(t))?;
+    guard(1, p.len() <= MOST_PAYLOAD)?;
+    guard(6, 17 <= p.len())?;
+    let (kexes, c1) = offer(here(p, 17))?;
+    let kex = settle(10, chosen(t.side, &kexChosen(t), &kexes))?;
+    let (keys, c2) = offer(c1)?;
+    let key = settle(11, chosen(t.side, &keyList(t), &keys))?;
+    let (ciphers, c3) = offer(c2)?;
+    let cipher = settle(12, chosen(t.side, &cipherList(t), &ciphers))?;
+    let (_, c4) = string(c3)?;
+    let (macs, c5) = offer(c4)?;
+    let clientMac = settleMac(&cipher, chosen(t.side, &macList(t), &macs))?;
+    let (macs2, c6) = offer(c5)?;
+    let serverMac = settleMac(&cipher, chosen(t.side, &macList(t), &macs2))?;
+    let (compressions, c7) = offer(c6)?;
+    let clientCompression = settle(14, chosen(t.side, &compressionList(t), &compressions))?;
+    let (compressions2, c8) = offer(c7)?;
+    let serverCompression = settle(14, chosen(t.side, &compressionList(t), &compressions2))?;
+    let (_, c9) = string(c8)?;
+    let (_, c10) = string(c9)?;
+    let (follows, c11) = byte(c10)?;
+    let (_, c12) = word(c11)?;
+    end(c12)?;
+    Ok(Names {
+        kex: number(Kind::Kex, &kex),
+        key: keyNumber(&key),
+        cipher: number(Kind::Cipher, &cipher),
+        client_mac: number(Kind::Mac, &clientMac),
+        server_mac: number(Kind::Mac, &serverMac),
+        client_compression: number(Kind::Compression, &clientCompression),
+        server_compression: number(Kind::Compression, &serverCompression),
+        host_key_is_certificate: isCertificate(&key),
+        ignore_guessed: follows != 0 && !(bothFirst(&kexChosen(t), &kexes) && bothFirst(&keyList(t), &keys)),
+        strict_kex: strict(t, rekey, &kexes),
+    })
+}
+
+fn listField(names: &[Name]) -> Vec<u8> {
+    let list = join(names);
+    [put::word(list.len() as u64), list].concat()
+}
+
+/// "20, cookie, kex, key, cipher twice, MAC twice, compression twice, two empty language lists, byte 0, u32 0"
+pub fn kexInit(t: &Tables, cookie: &[u8]) -> Vec<u8> {
+    [
+        vec![20],
+        cookie.to_vec(),
+        listField(&kexWritten(t)),
+        listField(&keyList(t)),
+        listField(&cipherList(t)),
+        listField(&cipherList(t)),
+        listField(&macList(t)),
+        listField(&macList(t)),
+        listField(&compressionList(t)),
+        listField(&compressionList(t)),
+        put::word(0),
+        put::word(0),
+        vec![0],
+        put::word(0),
+    ]
+    .concat()
+}
+
+pub fn writeKex(t: &Tables, cookie: &[u8]) -> Out<Vec<u8>> {
+    guard(9, valid(t) && cookie.len() == 16)?;
+    Ok(kexInit(t, cookie))
+}

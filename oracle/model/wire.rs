@@ -1,0 +1,119 @@
+//! crates/wire/specs: Fields, Names, Shown
+
+use crate::answer::{Out, guard};
+use crate::text::{ascii, utf8};
+
+/// How far a reader is in the input, and what is left from there on.
+#[derive(Clone, Copy)]
+pub struct At<'a> {
+    pub at: usize,
+    pub left: &'a [u8],
+}
+
+/// at a position of s; past the end nothing is left
+pub fn here(s: &[u8], n: usize) -> At<'_> {
+    At { at: n, left: s.get(n..).unwrap_or(&[]) }
+}
+
+fn skip(n: usize, c: At) -> At {
+    At { at: c.at + n, left: c.left.get(n..).unwrap_or(&[]) }
+}
+
+#[derive(Debug, Clone, Copy, PartialEq, Eq)]
+pub struct Place {
+    pub start: usize,
+    pub len: usize,
+}
+
+#[derive(Clone, Copy)]
+pub struct Run<'a> {
+    pub place: Place,
+    pub bytes: &'a [u8],
+}
+
+pub fn byte(c: At) -> Out<(u8, At)> {
+    guard(2, 1 <= c.left.len())?;
+    Ok((c.left[0], skip(1, c)))
+}
+
+pub fn bigEndian(s: &[u8]) -> u32 {
+    ((s[0] as u32 * 256 + s[1] as u32) * 256 + s[2] as u32) * 256 + s[3] as u32
+}
+
+pub fn word(c: At) -> Out<(u32, At)> {
+    guard(2, 4 <= c.left.len())?;
+    Ok((bigEndian(c.left), skip(4, c)))
+}
+
+pub fn run(c: At) -> Out<(Run, At)> {
+    let (n, c1) = word(c)?;
+    let n = n as usize;
+    guard(2, n <= c1.left.len())?;
+    Ok((Run { place: Place { start: c1.at, len: n }, bytes: &c1.left[..n] }, skip(n, c1)))
+}
+
+pub fn string(c: At) -> Out<(Run, At)> {
+    let (t, c1) = run(c)?;
+    guard(3, utf8(t.bytes))?;
+    Ok((t, c1))
+}
+
+pub fn end(c: At) -> Out<()> {
+    guard(5, c.left.is_empty())
+}
+
+/// The names of a list: cut at each comma; one comma at the very end ends the last name and starts none (C3).
+pub fn cut(s: &[u8]) -> Vec<Vec<u8>> {
+    let mut names: Vec<Vec<u8>> = Vec::new();
+    for &c in s.iter().rev() {
+        match names.last_mut() {
+            _ if c == 44 => names.push(Vec::new()),
+            None => names.push(vec![c]),
+            Some(name) => name.push(c),
+        }
+    }
+    names.reverse();
+    names.iter_mut().for_each(|name| name.reverse());
+    names
+}
+
+/// names joined by commas
+pub fn join(names: &[Vec<u8>]) -> Vec<u8> {
+    names.join(&44)
+}
+
+const MOST_BYTES: usize = 16384;
+const MOST_BEFORE: usize = 1024;
+
+/// a name that may stand in a list: not empty (C2), and US-ASCII (C4)
+fn standing(s: &[u8]) -> bool {
+    !s.is_empty() && ascii(s)
+}
+
+/// name by name from the left: 3 for a name that may not stand, before the count's 2 (C7)
+fn judged(names: &[Vec<u8>]) -> Out<()> {
+    for (n, name) in names.iter().enumerate() {
+        guard(3, standing(name))?;
+        guard(2, n <= MOST_BEFORE)?;
+    }
+    Ok(())
+}
+
+fn judgedList(s: &[u8]) -> Out<()> {
+    guard(3, utf8(s))?;
+    judged(&cut(s))
+}
+
+/// a name-list: the string, then its length, then its bytes (C7)
+pub fn nameList(c: At) -> Out<(Run, At)> {
+    let (t, c1) = run(c)?;
+    guard(2, t.bytes.len() <= MOST_BYTES)?;
+    judgedList(t.bytes)?;
+    Ok((t, c1))
+}
+
+/// "a string's place lies outside the slice lent" is 2
+pub fn shown(s: &[u8], p: Place) -> Out<&[u8]> {
+    guard(2, p.start + p.len <= s.len())?;
+    Ok(&s[p.start..p.start + p.len])
+}
