@@ -1,0 +1,37 @@
+-- `replay::report::table`: a row for each function. Assumes nothing.
+use Prim.Native.Nat.{_-_}
+use borrow.Author.Needs.{needs}
+use Rattle.replay.proofs.report.table.Statement.{statement}
+use Rattle.replay.proofs.report.table.Tie as tie
+
+abbrev Inv-loop : tie.InvT-loop
+Inv-loop counts f₀ t4 t5 f = Unit
+
+abbrev μ-loop : tie.MeasureT-loop
+μ-loop counts f₀ t4 t5 f = 8 - f
+
+pub table-spec : {M : Type 1} → statement M
+table-spec =
+    tie.close
+    (tie.spec
+    Inv-loop
+    μ-loop
+    (λ c. search needs)
+    (λ c. search needs)
+    (λ c. search needs)
+    (λ c. search needs)
+    (λ c. search needs)
+    (λ c. search needs)
+    (λ c. search needs)
+    (λ c. search needs)
+    (λ c. search needs)
+    (λ c κs. search needs)
+    (λ c. search needs)
+    (λ c. search needs)
+    (λ c. search needs)
+    (λ c. search needs)
+    (λ c κs. search needs)
+    (λ c κs. search needs)
+    (λ c. search needs)
+    (λ c κs. search needs)
+    (λ c. search needs))
