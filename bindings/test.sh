@@ -49,13 +49,22 @@ c() {
     "$CC" $LINK -o "$built/test" "$built"/test-*.o "$LIBDOOR"
     $RUN "$built/test"
 
-    "$root/bindings/example.sh" c | diff "$root/bindings/c/both_ends.stdout" - >&2
-    echo "example: prints bindings/c/both_ends.stdout"
+    example c
 }
 
 rust() {
+    need "$CC" ${RUN:+"$RUN"}
     need_rust
-    cd "$root/bindings/rust" && x86_64_cargo test
+    grep -o 'fn harupesat_[a-z0-9_]*' "$root/bindings/rust/src/ffi.rs" | cut -c 4- | sort -u >"$built/wrapped"
+    same_names 'the wrapper declares' "$built/wrapped"
+    (cd "$root/bindings/rust" && x86_64_cargo test)
+    example rust
+}
+
+example() { # LANGUAGE
+    "$root/bindings/example.sh" "$1" >"$built/example.stdout"
+    diff "$root/bindings/both_ends.stdout" "$built/example.stdout" >&2
+    echo "example: the $1 one prints bindings/both_ends.stdout"
 }
 
 need_library
