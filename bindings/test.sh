@@ -18,45 +18,56 @@ compiles() { # NAME COMPILER FLAG..
     echo "header: compiles as $name"
 }
 
-# A function is what is followed by a parenthesis.
-declared() {
-    $CC -E -P "$header" | grep -o 'harupesat_[a-z0-9_]*(' | tr -d '(' | sort -u
+# The functions of a text: what is followed by a parenthesis.
+functions() {
+    grep -o 'harupesat_[a-z0-9_]*(' | tr -d '(' | sort -u
 }
 
-same_names() { # WHAT FILE
-    declared >"$built/declared"
-    if ! diff "$built/declared" "$2" >&2; then
+same_names() { # WHO NAMES
+    "$CC" -E -P "$header" | functions >"$built/declared"
+    if ! echo "$2" | diff "$built/declared" - >&2; then
         echo "header: what it declares (<) is not what $1 (>)" >&2
         exit 1
     fi
     echo "header: its $(wc -l <"$built/declared") functions are those that $1"
 }
 
-# $RUN is empty on x86-64, and $LINK too.
-c() {
-    need "$CC" "$NM" nm c++ ${RUN:+"$RUN"}
-    compiles C99 "$CC" -std=c99 -x c
-    compiles C++11 c++ -std=c++11 -x c++
-    "$NM" --defined-only --extern-only "$LIBDOOR" | awk '$3 ~ /^harupesat_/ { print $3 }' | sort -u >"$built/exported"
-    same_names 'the library exports' "$built/exported"
+symbols() {
+    exported=$("$NM" --defined-only --extern-only "$LIBDOOR" | awk 'NF == 3 { print $3 }' | sort -u)
+    same_names 'the library exports' "$exported"
+    wanted=$("$NM" -u "$LIBDOOR" | awk '$1 == "U" { print $2 }' | sort -u | tr '\n' ' ')
+    if [ "$wanted" != 'memcpy memset ' ]; then
+        echo "header: the library wants not memset and memcpy alone, but $wanted" >&2
+        exit 1
+    fi
+    echo "header: the library wants memset and memcpy, and nothing else"
+}
 
+# $RUN is empty on x86-64, and $LINK too.
+known_answers() {
     rm -f "$built"/test-*.o
     for file in "$root"/bindings/c/test/*.c; do
         "$CC" $strict -O1 -I "$root/include" -c -o "$built/test-$(basename "$file" .c).o" "$file"
     done
-    "$NM" -u "$built"/test-*.o | awk '$2 ~ /^harupesat_/ { print $2 }' | sort -u >"$built/called"
-    same_names 'its test calls' "$built/called"
+    called=$("$NM" -u "$built"/test-*.o | awk '$2 ~ /^harupesat_/ { print $2 }' | sort -u)
+    same_names 'its test calls' "$called"
     "$CC" $LINK -o "$built/test" "$built"/test-*.o "$LIBDOOR"
     $RUN "$built/test"
+}
 
+c() {
+    need "$CC" "$NM" nm c++ ${RUN:+"$RUN"}
+    compiles C99 "$CC" -std=c99 -x c
+    compiles C++11 c++ -std=c++11 -x c++ # the machine's own: what is judged is the language
+    symbols
+    known_answers
     example c
 }
 
 rust() {
     need "$CC" ${RUN:+"$RUN"}
     need_rust
-    grep -o 'fn harupesat_[a-z0-9_]*' "$root/bindings/rust/src/ffi.rs" | cut -c 4- | sort -u >"$built/wrapped"
-    same_names 'the wrapper declares' "$built/wrapped"
+    same_names 'the wrapper declares' "$(functions <"$root/bindings/rust/src/ffi.rs")"
     (cd "$root/bindings/rust" && x86_64_cargo test)
     example rust
 }
