@@ -1,5 +1,6 @@
 mod CodeLaws
 mod OpeningLaws
+mod OverLaws
 mod SealingLaws
 pub mod WriteLaws
 pub mod ReadLaws

@@ -14,6 +14,9 @@ use crate::Sealed;
 use answer::refuse;
 use wire::answers::Checked;
 
+// The most that padding_length answers.
+const MOST_PADDING: usize = 11;
+
 // "Cleartext packets (including lengths) must be multiple of 8 in length" (src/cipher/clear.rs).
 pub fn padding_length(payload: &[u8]) -> usize
     ensures padding { λ r. ⌜ r ≡ paddingLength (length (now (payload .entry))) ⌝ }
@@ -38,17 +41,18 @@ fn fill_padding(out: &mut [u8], at: usize, n: usize)
     }
 }
 
-// The room was tested by the caller, so that no put refuses.
+// The room was tested by the caller, so that no put refuses. As many zeros as padding can be are stored before the payload,
+// which then stands over those that are too many: their number is a constant, so that they take two stores and no loop.
 fn seal(payload: &[u8], padding: u8, len: u32, out: &mut [u8])
     requires { ⌜ (padding ≡ paddingLength (length (now payload)))
         × (len ≡ packetLength (length (now payload)))
         × (4 + packetLength (length (now payload)) ≤ length (now out)) ⌝ }
     ensures { λ r. ⌜ now (out .exit) ≡ sets (now (out .entry)) 0 (frame (now (payload .entry))) ⌝ }
 {
+    fill_padding(out, 4 + len as usize - MOST_PADDING, MOST_PADDING);
     put::put_u32(out, 0, len);
     put::put_u8(out, 4, padding);
     put::put_bytes(out, 5, payload);
-    fill_padding(out, 5 + payload.len(), padding as usize);
 }
 
 pub fn write(payload: &[u8], k: Counters, out: &mut [u8]) -> Sealed
