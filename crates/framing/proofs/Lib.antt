@@ -1,6 +1,6 @@
 mod CodeLaws
 mod OpeningLaws
-mod OverLaws
+mod StoreLaws
 mod SealingLaws
 pub mod WriteLaws
 pub mod ReadLaws
