@@ -2,48 +2,37 @@
 
 use crate::{Answer, Case};
 use plain::{ChannelType, Counters, Read, Side, Tables, Tcp};
-use std::fmt::Write;
 
-/// Bytes in hex, `-` for none; 16 or more of one byte as `hh*count`, parts joined by `.`
-pub fn hex(bytes: &[u8]) -> String {
-    if bytes.is_empty() {
-        return "-".into();
-    }
-    let mut parts: Vec<String> = Vec::new();
-    let mut open = String::new();
+/// Bytes between quotes: printable ASCII as it stands; space, `"`, `\`, `*` and any other byte as `\hh`; 16 or more of one byte
+/// as `\hh*count.`
+pub fn quoted(bytes: &[u8]) -> String {
+    let mut text = String::from("\"");
     for run in bytes.chunk_by(|a, b| a == b) {
-        if run.len() >= 16 {
-            if !open.is_empty() {
-                parts.push(std::mem::take(&mut open));
-            }
-            parts.push(format!("{:02x}*{}", run[0], run.len()));
-        } else {
-            run.iter().for_each(|b| write!(open, "{b:02x}").expect("a string takes all"));
-        }
+        let (b, n) = (run[0], run.len());
+        let plain = (0x21..=0x7E).contains(&b) && !b"\"\\*".contains(&b);
+        let unit = if plain { (b as char).to_string() } else { format!("\\{b:02x}") };
+        text += &if n < 16 { unit.repeat(n) } else { format!("\\{b:02x}*{n}.") };
     }
-    if !open.is_empty() {
-        parts.push(open);
-    }
-    parts.join(".")
+    text + "\""
 }
 
 fn tables(t: &Tables) -> String {
-    let ids = |ids: &[u32]| hex(&ids.iter().flat_map(|i| i.to_be_bytes()).collect::<Vec<u8>>());
+    let ids = |ids: &[u32]| quoted(&ids.iter().flat_map(|i| i.to_be_bytes()).collect::<Vec<u8>>());
     format!(
         "{} {} {} {} {} {} {} {} {} {} {}",
         match t.side {
             Side::Client => "client",
             Side::Server => "server",
         },
-        hex(&t.kex),
-        hex(&t.key),
-        hex(&t.certificate),
-        hex(&t.cipher),
-        hex(&t.mac),
-        hex(&t.compression),
-        hex(&t.key_kinds),
+        quoted(&t.kex),
+        quoted(&t.key),
+        quoted(&t.certificate),
+        quoted(&t.cipher),
+        quoted(&t.mac),
+        quoted(&t.compression),
+        quoted(&t.key_kinds),
         ids(&t.key_ids),
-        hex(&t.cert_kinds),
+        quoted(&t.cert_kinds),
         ids(&t.cert_ids),
     )
 }
@@ -54,31 +43,31 @@ fn counters(k: &Counters) -> String {
 
 pub fn case(c: &Case) -> String {
     let asked = match c {
-        Case::ReadKex { tables: t, rekey, payload } => format!("{} {} {}", tables(t), *rekey as u8, hex(payload)),
-        Case::WriteKex { tables: t, cookie } => format!("{} {}", tables(t), hex(cookie)),
-        Case::FrameRead { bytes, counters: k } => format!("{} {}", counters(k), hex(bytes)),
-        Case::FrameWrite { payload, counters: k } => format!("{} {}", counters(k), hex(payload)),
-        Case::Open { body } | Case::Confirmation { body } => hex(body),
-        Case::Fail { recipient, reason, text } => format!("{recipient} {reason} {}", hex(text)),
+        Case::ReadKex { tables: t, rekey, payload } => format!("{} {} {}", tables(t), *rekey as u8, quoted(payload)),
+        Case::WriteKex { tables: t, cookie } => format!("{} {}", tables(t), quoted(cookie)),
+        Case::FrameRead { bytes, counters: k } => format!("{} {}", counters(k), quoted(bytes)),
+        Case::FrameWrite { payload, counters: k } => format!("{} {}", counters(k), quoted(payload)),
+        Case::Open { body } | Case::Confirmation { body } => quoted(body),
+        Case::Fail { recipient, reason, text } => format!("{recipient} {reason} {}", quoted(text)),
         Case::UnknownType { recipient } => recipient.to_string(),
     };
     format!("{} {asked}", c.function())
 }
 
 fn tcp(t: &Tcp) -> String {
-    format!("{} {} {} {}", hex(&t.host), t.port, hex(&t.originator), t.originator_port)
+    format!("{} {} {} {}", quoted(&t.host), t.port, quoted(&t.originator), t.originator_port)
 }
 
 fn typ(t: &ChannelType) -> String {
     match t {
         ChannelType::Session => "session".into(),
-        ChannelType::X11 { originator, port } => format!("x11 {} {port}", hex(originator)),
+        ChannelType::X11 { originator, port } => format!("x11 {} {port}", quoted(originator)),
         ChannelType::DirectTcpip(t) => format!("direct-tcpip {}", tcp(t)),
-        ChannelType::DirectStreamLocal { path } => format!("direct-streamlocal {}", hex(path)),
+        ChannelType::DirectStreamLocal { path } => format!("direct-streamlocal {}", quoted(path)),
         ChannelType::ForwardedTcpIp(t) => format!("forwarded-tcpip {}", tcp(t)),
-        ChannelType::ForwardedStreamLocal { path } => format!("forwarded-streamlocal {}", hex(path)),
+        ChannelType::ForwardedStreamLocal { path } => format!("forwarded-streamlocal {}", quoted(path)),
         ChannelType::AgentForward => "auth-agent".into(),
-        ChannelType::Unknown { typ, rest } => format!("unknown {} {}", hex(typ), hex(rest)),
+        ChannelType::Unknown { typ, rest } => format!("unknown {} {}", quoted(typ), quoted(rest)),
     }
 }
 
@@ -100,12 +89,12 @@ pub fn answer(a: &Answer) -> String {
             n.ignore_guessed as u8,
             n.strict_kex as u8
         ),
-        Answer::Bytes(Ok(b)) => format!("ok {}", hex(b)),
+        Answer::Bytes(Ok(b)) => format!("ok {}", quoted(b)),
         Answer::Read(Ok(Read::Need(n))) => format!("need {n}"),
         Answer::Read(Ok(Read::Packet { payload, end, taken, counters: k })) => {
-            format!("ok {} {end} {taken} {}", hex(payload), counters(k))
+            format!("ok {} {end} {taken} {}", quoted(payload), counters(k))
         }
-        Answer::Sealed(Ok((packet, k))) => format!("ok {} {}", hex(packet), counters(k)),
+        Answer::Sealed(Ok((packet, k))) => format!("ok {} {}", quoted(packet), counters(k)),
         Answer::Open(Ok(o)) => format!(
             "ok {} {} {} {}",
             o.recipient_channel,

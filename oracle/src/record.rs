@@ -1,5 +1,5 @@
 //! The oracle's answers, one case per line: the cases made with fixed seeds, so the file is the same byte for byte.
-//!   record OUT N [FOLDER OF CAPTURES]
+//!   record OUT N FOLDER-OF-CAPTURES
 
 use cases::rng::Rng;
 use cases::{Case, NUMBERS, channels, exhaustive, frames, kex, lines};
@@ -8,26 +8,9 @@ use std::io::{BufWriter, Result, Write};
 
 const SEED: u64 = 0x5265_636F_7264_6564;
 
-struct Record<W> {
-    out: W,
-    counts: BTreeMap<&'static str, BTreeMap<String, u64>>,
-}
-
-impl<W: Write> Record<W> {
-    fn all(&mut self, what: &str, cases: impl IntoIterator<Item = Case>) -> Result<()> {
-        writeln!(self.out, "# {what}")?;
-        for case in cases {
-            let answer = case.oracle();
-            writeln!(self.out, "{} = {}", lines::case(&case), lines::answer(&answer))?;
-            *self.counts.entry(case.function()).or_default().entry(answer.sort()).or_default() += 1;
-        }
-        Ok(())
-    }
-}
-
 fn captures(folder: &str) -> Result<Vec<(String, Vec<u8>)>> {
     let mut files = Vec::new();
-    for entry in std::fs::read_dir(folder).into_iter().flatten() {
+    for entry in std::fs::read_dir(folder)? {
         let path = entry?.path();
         if path.extension().is_some_and(|e| e == "bin") {
             files.push((path.file_name().unwrap_or_default().to_string_lossy().into_owned(), std::fs::read(&path)?));
@@ -37,61 +20,102 @@ fn captures(folder: &str) -> Result<Vec<(String, Vec<u8>)>> {
     Ok(files)
 }
 
-fn main() -> Result<()> {
-    let args: Vec<String> = std::env::args().skip(1).collect();
-    let [out, n, folder] = &args[..] else { panic!("record OUT N FOLDER") };
-    let n: usize = n.parse().expect("N is a number");
-    let mut record = Record { out: BufWriter::new(std::fs::File::create(out)?), counts: BTreeMap::new() };
-
-    writeln!(record.out, "# answers of russh 0.65.0 (oracle/README.md); seed {SEED:#x} and the family's number, {n} each")?;
-    record.all("document 01's tried bytes", cases::tried())?;
-    for (file, bytes) in captures(folder)? {
-        record.all(&file, cases::captured(&bytes))?;
-    }
-    record.all("short packets", frames::short(12).filter(few))?;
-    record.all("packets at their limits", frames::limits())?;
-    record.all("KEXINITs at their limits", exhaustive::limits())?;
-    record.all("small choices", exhaustive::small_choices().into_iter().step_by(37))?;
-    record.all("small lists", exhaustive::small_lists().into_iter().step_by(41))?;
-    record.all("channel bodies at their limits", channels::limits())?;
-    record.all("UTF-8", channels::utf8().step_by(211))?;
-    let mut r = Rng::new(SEED + 1);
-    record.all("pairs written by the Rust, read, and read damaged", (0..n.div_ceil(6)).flat_map(|_| kex::pair(&mut r)))?;
-    for (family, what, make) in [
-        (2, "KEXINITs put together by hand", kex::by_hand as fn(&mut Rng) -> Case),
-        (3, "packets read", frames::read),
-        (4, "packets written", frames::write),
-        (5, "opening bodies", channels::open),
-        (6, "confirmation bodies", channels::confirmation),
-        (7, "failures", channels::fail),
-    ] {
-        let mut r = Rng::new(SEED + family);
-        record.all(what, (0..n).map(|_| make(&mut r)))?;
-    }
-    record.out.flush()?;
-
-    println!("seed {SEED:#x} and the family's number, {n} each");
-    let mut missing = false;
-    for (function, answers) in &record.counts {
-        let each: Vec<String> = answers.iter().map(|(a, n)| format!("{a}: {n}")).collect();
-        println!("  {function}: {}", each.join(", "));
-    }
-    for (function, numbers) in NUMBERS {
-        for number in *numbers {
-            if !record.counts.get(function).is_some_and(|m| m.contains_key(&number.to_string())) {
-                println!("{function} never gave {number}");
-                missing = true;
-            }
-        }
-    }
-    println!("{} cases", record.counts.values().flat_map(|m| m.values()).sum::<u64>());
-    std::process::exit(missing as i32);
-}
-
 /// of the short packets: padding up to two more than the length, and 255
 fn few(case: &Case) -> bool {
     match case {
         Case::FrameRead { bytes, .. } if bytes.len() > 4 => bytes[4] <= bytes[3] + 2 || bytes[4] == 255,
         _ => true,
     }
+}
+
+/// of the packets around the largest: one padding
+fn one_padding(case: &Case) -> bool {
+    match case {
+        Case::FrameRead { bytes, .. } if bytes.len() > 5 => bytes[4] == 4,
+        _ => true,
+    }
+}
+
+/// of the UTF-8 cases: the edges of each row of RFC 3629's grammar, then tails and what is none
+fn at_an_edge(case: &Case) -> bool {
+    let Case::Open { body } = case else { return true };
+    let text = &body[4..4 + body[3] as usize];
+    let first = b"\x00\x7F\x80\xBF\xC0\xC1\xC2\xDF\xE0\xE1\xEC\xED\xEE\xEF\xF0\xF1\xF3\xF4\xF5\xF8\xFF";
+    let second = b"\x00\x7F\x80\x8F\x90\x9F\xA0\xBF\xC0\xFF";
+    first.contains(&text[0]) && second.contains(&text[1]) && text[2..].iter().all(|b| b"\x80\xC0".contains(b))
+}
+
+/// every fifth KEXINIT read in a rekey of a strict connection
+fn rekeyed((i, case): (usize, Case)) -> Case {
+    match case {
+        Case::ReadKex { tables, payload, .. } => Case::ReadKex { tables, rekey: i % 5 == 0, payload },
+        other => other,
+    }
+}
+
+/// What the list holds: some of each family that `compare` tries, so that it stays small enough to be kept and replayed.
+pub fn families(n: usize, folder: &str) -> Result<Vec<(String, Vec<Case>)>> {
+    let mut all: Vec<(String, Vec<Case>)> = vec![("document 01's tried bytes".into(), cases::tried())];
+    for (file, bytes) in captures(folder)? {
+        all.push((file, cases::captured(&bytes)));
+    }
+    let mut add = |what: &str, cases: Vec<Case>| all.push((what.into(), cases));
+    let every = |k: usize, cases: Vec<Case>| cases.into_iter().step_by(k).collect::<Vec<Case>>();
+    add("short packets", frames::short(9).filter(few).collect());
+    add("packets at their limits", frames::limits().into_iter().filter(one_padding).collect());
+    add("KEXINITs at their limits", every(7, exhaustive::limits()));
+    add("small choices", every(97, exhaustive::small_choices()).into_iter().enumerate().map(rekeyed).collect());
+    add("small lists", every(151, exhaustive::small_lists()));
+    add("channel bodies at their limits", every(3, channels::limits()));
+    add("UTF-8", channels::utf8().filter(at_an_edge).collect());
+    let mut r = Rng::new(SEED + 1);
+    let pairs = (0..n.div_ceil(6)).flat_map(|_| kex::pair(&mut r)).collect();
+    add("pairs written by the Rust, read, and read damaged", pairs);
+    for (family, what, make, n) in [
+        (2, "KEXINITs put together by hand", kex::by_hand as fn(&mut Rng) -> Case, n),
+        (3, "packets read", frames::read, n),
+        (4, "packets written", frames::write, n / 4),
+        (5, "opening bodies", channels::open, 2 * n),
+        (6, "confirmation bodies", channels::confirmation, n),
+        (7, "failures", channels::fail, n / 2),
+    ] {
+        let mut r = Rng::new(SEED + family);
+        add(what, (0..n).map(|_| make(&mut r)).collect());
+    }
+    Ok(all)
+}
+
+fn main() -> Result<()> {
+    let args: Vec<String> = std::env::args().skip(1).collect();
+    let [file, n, folder] = &args[..] else { panic!("record OUT N FOLDER") };
+    let n: usize = n.parse().expect("N is a number");
+    let mut out = BufWriter::new(std::fs::File::create(file)?);
+    let mut counts: BTreeMap<&str, BTreeMap<String, u64>> = BTreeMap::new();
+    writeln!(out, "# Answers of russh 0.65.0, made by oracle/record.sh (oracle/README.md); seed {SEED:#x}, N {n}")?;
+    for (what, cases) in families(n, folder)? {
+        writeln!(out, "# {what}")?;
+        for case in cases {
+            let answer = case.oracle();
+            writeln!(out, "{} = {}", lines::case(&case), lines::answer(&answer))?;
+            *counts.entry(case.function()).or_default().entry(answer.sort()).or_default() += 1;
+        }
+    }
+    out.flush()?;
+
+    println!("seed {SEED:#x} and the family's number, N {n}");
+    for (function, answers) in &counts {
+        let each: Vec<String> = answers.iter().map(|(a, n)| format!("{a}: {n}")).collect();
+        println!("  {function}: {}", each.join(", "));
+    }
+    let mut missing = false;
+    for (function, numbers) in NUMBERS {
+        for number in *numbers {
+            if !counts.get(function).is_some_and(|m| m.contains_key(&number.to_string())) {
+                println!("{function} never gave {number}");
+                missing = true;
+            }
+        }
+    }
+    println!("{} cases, {} bytes", counts.values().flat_map(|m| m.values()).sum::<u64>(), std::fs::metadata(file)?.len());
+    std::process::exit(missing as i32);
 }
