@@ -1,0 +1,88 @@
+//! Clear packets: writing and reading.
+
+use crate::case::{Case, bytes};
+use crate::ours;
+use crate::table::number;
+use plain::{Counters, Read};
+use russh::door::{self, oracle};
+use russh::sshbuffer::SSHBuffer;
+
+const ZERO: Counters = Counters { seqn: 0, bytes: 0 };
+
+/// Enough for any packet of the payload: include/harupesat.h.
+fn room(payload: &[u8]) -> usize {
+    payload.len() + 16
+}
+
+fn payload(n: usize) -> &'static [u8] {
+    bytes((0..n).map(|i| i as u8).collect())
+}
+
+/// The Rust's buffer with room for the packet: it never grows within the count.
+fn buffer(room: usize) -> SSHBuffer {
+    SSHBuffer { buffer: Vec::with_capacity(room), ..SSHBuffer::new() }
+}
+
+/// libc's memcpy when it is told that the machine has 16-byte registers only, which run.sh does for this side.
+pub const SSE2: &str = "memcpy, SSE2";
+
+#[inline(never)]
+fn memcpy(from: &[u8], to: &mut [u8]) {
+    to[..from.len()].copy_from_slice(from);
+}
+
+fn write(n: usize) -> Case {
+    let payload = payload(n);
+    let mut out = vec![0; room(payload)];
+    let sealed = ours::frame_write(payload, 0, 0, &mut out);
+    assert_eq!(sealed.what, ours::DONE);
+    let counters = Counters { seqn: sealed.seqn, bytes: sealed.bytes };
+    assert_eq!((out[..sealed.len].to_vec(), counters), oracle::frame_write(payload, ZERO));
+
+    let mut theirs = buffer(room(payload));
+    let (mut copied, mut again) = (vec![0; n], vec![0; n]);
+    let copying = (n == 32_768).then_some(1.6);
+    Case::new(number(n as f64), move || ours::frame_write(payload, 0, 0, &mut out))
+        .against("russh", (n <= 200).then_some(1.0), move || door::frame_write(payload, &mut theirs))
+        .against("memcpy", copying, move || memcpy(payload, &mut copied))
+        .against(SSE2, copying, move || memcpy(payload, &mut again))
+}
+
+pub fn writes() -> Vec<Case> {
+    [0, 1, 50, 100, 182, 200, 32_768, 262_167].map(write).into()
+}
+
+fn ours_read(s: &[u8]) -> Result<Read, u8> {
+    let f = ours::frame_read(s, 0, 0);
+    match f.what {
+        ours::DONE => Ok(Read::Packet {
+            payload: s[f.start..f.start + f.len].to_vec(),
+            end: f.end,
+            taken: f.taken,
+            counters: Counters { seqn: f.seqn, bytes: f.bytes },
+        }),
+        ours::NEED => Ok(Read::Need(f.need)),
+        _ => Err(f.number),
+    }
+}
+
+fn read(name: &str, input: &'static [u8]) -> Case {
+    assert_eq!(ours_read(input), oracle::frame_read(input, ZERO));
+    let mut theirs = buffer(input.len());
+    Case::new(name, move || ours::frame_read(input, 0, 0)).under(100.0).against("russh", None, move || {
+        theirs.len = 0; // the Rust keeps an announced length after a refusal
+        door::frame_read(input, &mut theirs)
+    })
+}
+
+pub fn reads() -> Vec<Case> {
+    let mut cases: Vec<Case> = [0, 1, 50, 182, 1_024, 32_768, 262_167]
+        .into_iter()
+        .map(|n| read(&number(n as f64), bytes(oracle::frame_write(payload(n), ZERO).0)))
+        .collect();
+    cases.push(read("need: 3 bytes lent", &[0, 0, 0]));
+    cases.push(read("need: a byte short of 192", bytes(oracle::frame_write(payload(182), ZERO).0[..191].to_vec())));
+    cases.push(read("refused, 4", &[0, 4, 0, 0x22]));
+    cases.push(read("refused, 7", &[0, 0, 0, 1, 2]));
+    cases
+}

@@ -1,0 +1,57 @@
+//! A name's number, against `==` over the kind's names one by one.
+
+use crate::case::{Case, bytes, lent};
+use crate::ours;
+
+/// Kinds in the header's order, each with a name that the Rust knows, or once knew, and we do not.
+const KINDS: [(&str, &str); 6] = [
+    ("kex", "diffie-hellman-group14-sha1"),
+    ("key", "ssh-dss"),
+    ("certificate", "ssh-dss-cert-v01@openssh.com"),
+    ("cipher", "3des-cbc"),
+    ("mac", "hmac-sha1"),
+    ("compression", "zlib@openssh.com"),
+];
+
+#[inline(never)]
+fn linear(table: &[&str], name: &[u8]) -> Option<usize> {
+    table.iter().position(|entry| entry.as_bytes() == name)
+}
+
+fn lookup(case: String, kind: u8, table: &'static [&'static str], name: &str) -> Case {
+    let name = bytes(name.as_bytes().to_vec());
+    let found = ours::lookup(kind, name);
+    match linear(table, name) {
+        Some(place) => assert_eq!((found.what, found.value as usize), (ours::DONE, place)),
+        None => assert_eq!(found.what, ours::UNKNOWN),
+    }
+    Case::new(case, move || ours::lookup(kind, name))
+        .against("linear ==", Some(2.0), move || linear(table, name))
+}
+
+fn table(kind: u8) -> &'static [&'static str] {
+    let names = (0..).map_while(|n| ours::spelling(kind, n)).map(|name| lent(name.into_boxed_str()));
+    lent(names.collect::<Vec<&str>>().into_boxed_slice())
+}
+
+/// A name of the same length that differs in its last byte.
+fn off(name: &str) -> String {
+    [&name[..name.len() - 1], "?"].concat()
+}
+
+pub fn lookups() -> Vec<Case> {
+    let mut cases = Vec::new();
+    for (kind, (what, unknown)) in KINDS.into_iter().enumerate() {
+        let table = table(kind as u8);
+        let (first, middle, last) = (table[0], table[table.len() / 2], table[table.len() - 1]);
+        let off = off(last);
+        for (place, name) in
+            [("first", first), ("middle", middle), ("last", last), ("unknown", unknown), ("last, a byte off", &off)]
+        {
+            if table.len() > 1 || !matches!(place, "middle" | "last") {
+                cases.push(lookup(format!("{what}: {place} ({name})"), kind as u8, table, name));
+            }
+        }
+    }
+    cases
+}
