@@ -2,6 +2,7 @@
 # Builds the benchmark, bench/target/bench: our static library and the Rust's text in one x86-64 program.
 #   bench/build.sh [FOLDER OF THE RUST'S TEXT]      (as oracle/build.sh)
 # LIBDOOR: our static library; target/staticlib/libdoor.a, which `rt staticlib door` makes, where none is given.
+# LTO=fat: the Rust optimised across its crates when it is linked, as ours is.
 set -eu
 bench=$(cd "$(dirname "$0")" && pwd)
 here=$bench/../oracle
@@ -30,8 +31,9 @@ externs=$(for f in "$target"/lib/lib*.rlib "$target"/lib/lib*.so; do
     [ "$name" = russh ] || [ "$name" = cases ] || [ "$name" = model ] || echo "--extern $name=$f"
 done)
 release='--edition 2024 -C opt-level=3 -C codegen-units=1'
+lto=${LTO:+-C lto=$LTO}
 $rustc $release --crate-type rlib --crate-name russh --cfg 'feature="ring"' --cap-lints allow -L "$target/lib" $externs \
     --out-dir "$out/lib" "$out/russh/src/lib.rs"
-$rustc $release --crate-type bin --crate-name bench -L "$target/lib" -L "native=$out/lib" $externs \
+$rustc $release $lto --crate-type bin --crate-name bench -L "$target/lib" -L "native=$out/lib" $externs \
     --extern "russh=$out/lib/librussh.rlib" -o "$out/bench" "$bench/src/main.rs"
-echo "bench: built by $($host_rustc --version), $release"
+echo "bench: built by $($host_rustc --version), $release $lto"

@@ -1,21 +1,21 @@
 #!/bin/sh
 # Builds the benchmark, counts instructions, times where times mean something, and prints the tables of docs/BENCHMARKS.md.
 #   bench/run.sh [FOLDER OF THE RUST'S TEXT]      (as oracle/build.sh)
-# LIBDOOR: our static library, as in bench/build.sh. CAPTURES: real first packets; ../shared/captures, where none is given.
+# LIBDOOR, LTO: as in bench/build.sh. CAPTURES: real first packets; ../shared/captures, where none is given.
 #
 # Instructions of a call are those of a run with 2N calls less those of a run with N, by N, so that whatever else a run does
 # falls out: by callgrind on an x86-64 machine, by a plugin of the emulator on another.
 set -eu
 bench=$(cd "$(dirname "$0")" && pwd)
-export CAPTURES="${CAPTURES:-$bench/../../shared/captures}"
+captures=${CAPTURES:-$bench/../../shared/captures}
 calls=100
-if [ ! -f "$CAPTURES/INDEX.tsv" ]; then
-    echo "bench: no INDEX.tsv in '$CAPTURES': name the folder of the captures by CAPTURES" >&2
+if [ ! -f "$captures/INDEX.tsv" ]; then
+    echo "bench: no INDEX.tsv in '$captures': name the folder of the captures by CAPTURES" >&2
     exit 2
 fi
+export CAPTURES="$(cd "$captures" && pwd)"
 "$bench/build.sh" "$@"
-out=$bench/target
-program=$out/bench
+cd "$bench/target"
 
 # libc picks its memcpy by the machine. For long ones it picks `rep movs`, of which counters count each byte: that one is
 # ruled out. The other sides have the widest registers of the machine; a side named SSE2 has those that every x86-64 has.
@@ -29,42 +29,42 @@ libc() {
 case $(uname -m) in
 x86_64)
     command -v valgrind >/dev/null || { echo "bench: no valgrind: apt-get install valgrind" >&2; exit 2; }
-    runner=
-    tool="callgrind, $(valgrind --version)"
-    count() {
-        valgrind --tool=callgrind --callgrind-out-file=/dev/null "$program" "$@" 2>&1 </dev/null |
-            sed -n 's/^==[0-9]*== Collected : *\([0-9]*\).*/\1/p'
-    }
+    runner=''
+    counter='valgrind --tool=callgrind --callgrind-out-file=/dev/null'
+    counted='s/^==[0-9]*== Collected : *\([0-9]*\).*/\1/p'
+    tool="callgrind of $(valgrind --version)"
     ;;
 *)
     runner=qemu-x86_64
-    tool="the plugin count.c of $(qemu-x86_64 --version | head -n 1)"
-    cc -O2 -Wall -Wextra -shared -fPIC -o "$out/count.so" "$bench/count.c"
-    count() {
-        qemu-x86_64 -plugin "$out/count.so" "$program" "$@" 2>&1 </dev/null | sed -n 's/^instructions: //p'
-    }
+    cc -O2 -Wall -Wextra -shared -fPIC -o count.so ../count.c
+    counter="qemu-x86_64 -plugin ./count.so"
+    counted='s/^instructions: //p'
+    tool="bench/count.c under $(qemu-x86_64 --version | head -n 1)"
     ;;
 esac
 
-tab=$(printf '\t')
-$runner "$program" list > "$out/list"
-while IFS=$tab read -r group case side; do
-    export GLIBC_TUNABLES=$(libc "$side")
-    once=$(count run "$group" "$case" "$side" $calls)
-    twice=$(count run "$group" "$case" "$side" $((2 * calls)))
-    if [ -z "$once" ] || [ -z "$twice" ]; then
-        echo "bench: '$group' '$case' '$side' could not be counted:" >&2
-        $runner "$program" run "$group" "$case" "$side" 1 >&2
+count() { # GROUP CASE SIDE CALLS
+    GLIBC_TUNABLES=$(libc "$3") $counter ./bench run "$@" > log 2>&1 </dev/null || {
+        echo "bench: a run of '$1', '$2', '$3' failed:" >&2
+        cat log >&2
         exit 1
-    fi
-    echo "$group$tab$case$tab$side$tab$(awk -v a="$once" -v b="$twice" -v n=$calls 'BEGIN { print (b - a) / n }')"
-done < "$out/list" > "$out/counts"
-unset GLIBC_TUNABLES
+    }
+    sed -n "$counted" log
+}
+
+tab=$(printf '\t')
+$runner ./bench list > list
+while IFS=$tab read -r group case side; do
+    once=$(count "$group" "$case" "$side" $calls)
+    twice=$(count "$group" "$case" "$side" $((2 * calls)))
+    printf '%s\t%s\t%s\t' "$group" "$case" "$side"
+    awk -v once="$once" -v twice="$twice" -v calls=$calls 'BEGIN { printf "%.2f\n", (twice - once) / calls }'
+done < list > counts
 
 echo "Instructions counted by $tool."
 if [ -z "$runner" ]; then
-    $program time > "$out/times"
-    exec "$program" table "$out/counts" "$out/times"
+    ./bench time > times
+    exec ./bench table counts times
 fi
 echo "No times: under an emulator they say nothing."
-exec $runner "$program" table "$out/counts"
+exec $runner ./bench table counts
