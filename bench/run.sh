@@ -1,7 +1,7 @@
 #!/bin/sh
 # Builds the benchmark, counts instructions, times where times mean something, and prints the tables of docs/BENCHMARKS.md.
-#   bench/run.sh [FOLDER OF THE RUST'S TEXT]      (as oracle/build.sh)
-# LIBDOOR, LTO: as in bench/build.sh. CAPTURES: real first packets; ../shared/captures, where none is given.
+# LIBDOOR, LTO: as in bench/build.sh. RUSSH_TEXT: the folder of the Rust's text; CAPTURES: real first packets. Both default
+# to folders beside the repository.
 #
 # Instructions of a call are those of a run with 2N calls less those of a run with N, by N, so that whatever else a run does
 # falls out: by callgrind on an x86-64 machine, by a plugin of the emulator on another.
@@ -14,7 +14,7 @@ if [ ! -f "$captures/INDEX.tsv" ]; then
     exit 2
 fi
 export CAPTURES="$(cd "$captures" && pwd)"
-"$bench/build.sh" "$@"
+"$bench/build.sh" ${RUSSH_TEXT:+"$RUSSH_TEXT"}
 cd "$bench/target"
 
 # libc picks its memcpy by the machine. For long ones it picks `rep movs`, of which counters count each byte: that one is
@@ -36,6 +36,7 @@ x86_64)
     ;;
 *)
     runner=qemu-x86_64
+    command -v cc >/dev/null || { echo "bench: no cc for the emulator's plugin: apt-get install gcc libc6-dev" >&2; exit 2; }
     cc -O2 -Wall -Wextra -shared -fPIC -o count.so ../count.c
     counter="qemu-x86_64 -plugin ./count.so"
     counted='s/^instructions: //p'

@@ -19,7 +19,7 @@ pub struct Case {
     /// ours is to stay under so many instructions
     pub under: Option<f64>,
     /// the case whose counts are taken off: what else is in them
-    pub less: Option<String>,
+    pub less: Option<&'static str>,
 }
 
 impl Case {
@@ -37,8 +37,8 @@ impl Case {
         self
     }
 
-    pub fn less(mut self, name: impl Into<String>) -> Self {
-        self.less = Some(name.into());
+    pub fn less(mut self, name: &'static str) -> Self {
+        self.less = Some(name);
         self
     }
 

@@ -6,6 +6,7 @@ use crate::table::number;
 use plain::{Counters, Read};
 use russh::door::{self, oracle};
 use russh::sshbuffer::SSHBuffer;
+use std::hint::black_box;
 
 const ZERO: Counters = Counters { seqn: 0, bytes: 0 };
 
@@ -31,14 +32,19 @@ fn memcpy(from: &[u8], to: &mut [u8]) {
     to[..from.len()].copy_from_slice(from);
 }
 
-fn write(n: usize) -> Case {
-    let payload = payload(n);
+/// Both write the same packet and count alike.
+fn agree(payload: &[u8]) {
     let mut out = vec![0; room(payload)];
     let sealed = ours::frame_write(payload, 0, 0, &mut out);
     assert_eq!(sealed.what, ours::DONE);
     let counters = Counters { seqn: sealed.seqn, bytes: sealed.bytes };
     assert_eq!((out[..sealed.len].to_vec(), counters), oracle::frame_write(payload, ZERO));
+}
 
+fn write(n: usize) -> Case {
+    let payload = payload(n);
+    agree(payload);
+    let mut out = vec![0; room(payload)];
     let mut theirs = buffer(room(payload));
     let (mut copied, mut again) = (vec![0; n], vec![0; n]);
     let copying = (n == 32_768).then_some(1.6);
@@ -48,8 +54,28 @@ fn write(n: usize) -> Case {
         .against(SSE2, copying, move || memcpy(payload, &mut again))
 }
 
+/// Every remainder that a copy can leave, where the sizes above have some.
+fn write_each(most: usize) -> Case {
+    let payload = payload(most);
+    (0..=most).for_each(|n| agree(&payload[..n]));
+    let mut out = vec![0; room(payload)];
+    let mut theirs = buffer(room(payload));
+    let ours = move || {
+        for n in 0..=most {
+            black_box(ours::frame_write(&payload[..n], 0, 0, &mut out));
+        }
+    };
+    Case::new(format!("each of 0 to {most}, added up"), ours).against("russh", Some(1.0), move || {
+        for n in 0..=most {
+            door::frame_write(&payload[..n], &mut theirs);
+        }
+    })
+}
+
 pub fn writes() -> Vec<Case> {
-    [0, 1, 50, 100, 182, 200, 32_768, 262_167].map(write).into()
+    let mut cases: Vec<Case> = [0, 1, 31, 50, 100, 182, 191, 200, 32_768, 262_167].map(write).into();
+    cases.push(write_each(200));
+    cases
 }
 
 fn ours_read(s: &[u8]) -> Result<Read, u8> {

@@ -24,22 +24,26 @@ fn text(name: &str, goal: Option<f64>, typ: Vec<u8>) -> Case {
     channels::open(name, body).against("from_utf8", goal, move || from_utf8(typ))
 }
 
+/// The call with next to nothing to judge.
+const SHORT: &str = "next to nothing: the whole call, taken off below";
+
 pub fn texts() -> Vec<Case> {
-    let short = "ASCII, 1 byte, the whole call";
-    vec![
-        text(short, None, ascii(1)),
-        text("ASCII, 20 bytes", None, ascii(20)).less(short),
-        text("ASCII, 100 bytes", None, ascii(100)).less(short),
-        text("ASCII, 1,024 bytes", Some(1.0), ascii(1_024)).less(short),
-        text("ASCII, 32,768 bytes", Some(1.0), ascii(32_768)).less(short),
-        text("ASCII, 262,159 bytes", Some(1.0), ascii(262_159)).less(short),
-        text("é, 32,768 bytes", None, repeated("é", 32_768)).less(short),
-        text("列, 32,766 bytes", None, repeated("列", 32_768)).less(short),
-        text("an é after 1,023 ASCII bytes, 32,750 bytes", None, {
-            repeated(&[&String::from_utf8(ascii(1_023)).expect("ASCII"), "é"].concat(), 32_768)
-        })
-        .less(short),
-    ]
+    let rare = [ascii(1_022), "é".into()].concat();
+    let rare = std::str::from_utf8(&rare).expect("an é after ASCII");
+    let mut cases = vec![text(SHORT, None, ascii(1))];
+    for (name, goal, typ) in [
+        ("ASCII, 20 bytes", Some(1.0), ascii(20)),
+        ("ASCII, 100 bytes", Some(1.0), ascii(100)),
+        ("ASCII, 1,024 bytes", Some(1.0), ascii(1_024)),
+        ("ASCII, 32,768 bytes", Some(1.0), ascii(32_768)),
+        ("ASCII, 262,159 bytes", Some(1.0), ascii(262_159)),
+        ("é at the end of each 1,024 bytes, 32,768 bytes", None, repeated(rare, 32_768)),
+        ("é, 32,768 bytes", None, repeated("é", 32_768)),
+        ("列, 32,766 bytes", None, repeated("列", 32_768)),
+    ] {
+        cases.push(text(name, goal, typ).less(SHORT));
+    }
+    cases
 }
 
 /// A name-list judged as src/helpers.rs does, with std alone and no copy.
@@ -94,13 +98,16 @@ fn names(name: &str, goal: Option<f64>, list: Vec<u8>) -> Case {
 }
 
 pub fn lists() -> Vec<Case> {
-    let short = "none, the whole call";
     let after_none = |rest: &[u8]| [b"none,", rest].concat();
     let many = |n: usize| after_none(repeated("aes-for-nothing,", n - 5).strip_suffix(b",").expect("a comma at its end"));
-    vec![
-        names(short, None, b"none".to_vec()),
-        names("names of 15 bytes, 1,012 bytes in all", Some(1.0), many(1_024)).less(short),
-        names("names of 15 bytes, 16,372 bytes in all", Some(1.0), many(16_384)).less(short),
-        names("one name, 16,384 bytes in all", Some(1.0), after_none(&ascii(16_379))).less(short),
-    ]
+    let mut cases = vec![names(SHORT, None, b"none".to_vec())];
+    for (name, list) in [
+        ("names of 15 bytes, 100 bytes in all", many(101)),
+        ("names of 15 bytes, 1,012 bytes in all", many(1_024)),
+        ("names of 15 bytes, 16,372 bytes in all", many(16_384)),
+        ("one name, 16,384 bytes in all", after_none(&ascii(16_379))),
+    ] {
+        cases.push(names(name, Some(1.0), list).less(SHORT));
+    }
+    cases
 }

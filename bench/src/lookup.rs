@@ -2,6 +2,7 @@
 
 use crate::case::{Case, bytes, lent};
 use crate::ours;
+use std::hint::black_box;
 
 /// Kinds in the header's order, each with a name that the Rust knows, or once knew, and we do not.
 const KINDS: [(&str, &str); 6] = [
@@ -18,15 +19,32 @@ fn linear(table: &[&str], name: &[u8]) -> Option<usize> {
     table.iter().position(|entry| entry.as_bytes() == name)
 }
 
-fn lookup(case: String, kind: u8, table: &'static [&'static str], name: &str) -> Case {
-    let name = bytes(name.as_bytes().to_vec());
+fn agree(kind: u8, table: &[&str], name: &[u8]) {
     let found = ours::lookup(kind, name);
     match linear(table, name) {
         Some(place) => assert_eq!((found.what, found.value as usize), (ours::DONE, place)),
         None => assert_eq!(found.what, ours::UNKNOWN),
     }
-    Case::new(case, move || ours::lookup(kind, name))
-        .against("linear ==", Some(2.0), move || linear(table, name))
+}
+
+fn lookup(case: String, kind: u8, table: &'static [&'static str], name: &str) -> Case {
+    let name = bytes(name.as_bytes().to_vec());
+    agree(kind, table, name);
+    Case::new(case, move || ours::lookup(kind, name)).against("linear ==", Some(2.0), move || linear(table, name))
+}
+
+fn each(case: String, kind: u8, table: &'static [&'static str]) -> Case {
+    table.iter().for_each(|name| agree(kind, table, name.as_bytes()));
+    let ours = move || {
+        for name in table {
+            black_box(ours::lookup(kind, name.as_bytes()));
+        }
+    };
+    Case::new(case, ours).against("linear ==", Some(2.0), move || {
+        for name in table {
+            black_box(linear(table, name.as_bytes()));
+        }
+    })
 }
 
 fn table(kind: u8) -> &'static [&'static str] {
@@ -52,6 +70,7 @@ pub fn lookups() -> Vec<Case> {
                 cases.push(lookup(format!("{what}: {place} ({name})"), kind as u8, table, name));
             }
         }
+        cases.push(each(format!("{what}: each, added up"), kind as u8, table));
     }
     cases
 }

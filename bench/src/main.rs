@@ -7,7 +7,9 @@
 
 mod case;
 mod channels;
+mod figures;
 mod frames;
+mod goals;
 mod judging;
 mod kex;
 mod lookup;
