@@ -12,6 +12,12 @@ pub enum Kind {
     Compression,
 }
 
+impl Kind {
+    /// in the order of their numbers
+    pub const ALL: [Kind; 6] =
+        [Kind::Kex, Kind::Key, Kind::Certificate, Kind::Cipher, Kind::Mac, Kind::Compression];
+}
+
 const KEX: &[&str] = &[
     "mlkem768x25519-sha256",
     "curve25519-sha256",

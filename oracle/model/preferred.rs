@@ -128,15 +128,26 @@ pub fn compressionList(t: &Tables) -> Vec<Name<'static>> {
 }
 
 /// crates/preferred/specs/Defaults
+pub fn defaultList(k: Kind) -> Vec<u8> {
+    match k {
+        Kind::Kex => (0..13).collect(),
+        Kind::Key => (0..7).collect(),
+        Kind::Certificate => vec![],
+        Kind::Cipher => vec![10, 6, 4, 3, 2],
+        Kind::Mac => vec![1, 2, 3, 4],
+        Kind::Compression => vec![0],
+    }
+}
+
 pub fn defaults(side: Side, key_kinds: &[u8], key_ids: &[u32], cert_kinds: &[u8], cert_ids: &[u32]) -> Tables {
     Tables {
         side,
-        kex: (0..13).collect(),
-        key: (0..7).collect(),
-        certificate: vec![],
-        cipher: vec![10, 6, 4, 3, 2],
-        mac: vec![1, 2, 3, 4],
-        compression: vec![0],
+        kex: defaultList(Kind::Kex),
+        key: defaultList(Kind::Key),
+        certificate: defaultList(Kind::Certificate),
+        cipher: defaultList(Kind::Cipher),
+        mac: defaultList(Kind::Mac),
+        compression: defaultList(Kind::Compression),
         key_kinds: key_kinds.to_vec(),
         key_ids: key_ids.to_vec(),
         cert_kinds: cert_kinds.to_vec(),
