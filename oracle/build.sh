@@ -2,6 +2,7 @@
 # Builds the oracle: 16 files of russh 0.65.0, unchanged, with stand-ins for what is absent.
 #   oracle/build.sh [FOLDER OF THE RUST'S TEXT]      (../shared/docs/src beside the repository, where none is given)
 # ORACLE_FOR: host (where none is given), or x86_64 for what links our static library: machine.sh says by what.
+# LIBDOOR: our static library, if it is to be compared too.
 # Needs rustc alone: no registry, no network. What is built stands in oracle/target/.
 set -eu
 here=$(cd "$(dirname "$0")" && pwd)
@@ -55,7 +56,10 @@ $rustc --edition 2024 -O --crate-type rlib --crate-name russh --cfg 'feature="ri
     --out-dir "$target/lib" "$tree/lib.rs" --cap-lints allow $(externs)
 lib cases "$here/cases/lib.rs"
 lib model "$here/model/lib.rs"
-for name in compare record mutants; do
+lib ours "$here/src/ours/lib.rs"
+for name in record mutants; do
     $rustc --edition 2024 -O --crate-type bin --crate-name $name -L "$target/lib" -o "$target/$name" "$here/src/$name.rs" $(externs)
 done
+$rustc --edition 2024 -O --crate-type bin --crate-name compare ${LIBDOOR:+--cfg library -C link-arg="$LIBDOOR"} \
+    -L "$target/lib" -o "$target/compare" "$here/src/compare/main.rs" $(externs)
 echo "oracle: 16 files as in SHA256SUMS, built"

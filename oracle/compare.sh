@@ -1,8 +1,31 @@
 #!/bin/sh
-# Runs the model (our definitions, in Rust) against the oracle, and reports every disagreement with its smallest input.
-#   oracle/compare.sh [N]      N random cases of each family (500,000 where none is given)
-# RUSSH_TEXT: the folder of the Rust's text; CAPTURES: real first packets. Both default to folders beside the repository.
+# Compares our static library with the Rust's text (the oracle) and with the model, and reports every disagreement with
+# its smallest input. Exit status 1: they disagree, a number never came up, or a row of docs/DIFFERENCES.md is not so.
+#   oracle/compare.sh               the short run: 100,000 random cases of each family
+#   oracle/compare.sh long          the long run: 1,250,000 of each, over 10 million in all
+#   oracle/compare.sh N             N of each
+#   oracle/compare.sh model [N]     the model with the oracle alone, on any machine and without the library
+# LIBDOOR: the library (target/staticlib/libdoor.a where none is given); RUSSH_TEXT: the folder of the Rust's text;
+# CAPTURES: real first packets. The last two default to folders beside the repository.
 set -eu
 here=$(cd "$(dirname "$0")" && pwd)
+. "$here/machine.sh"
+if [ "${1:-}" = model ]; then
+    shift
+    unset LIBDOOR
+    ORACLE_FOR=host
+else
+    LIBDOOR=${LIBDOOR:-$here/../target/staticlib/libdoor.a}
+    [ -f "$LIBDOOR" ] || { echo "oracle: no library '$LIBDOOR': make it by 'rt staticlib door'" >&2; exit 2; }
+    ORACLE_FOR=x86_64
+    export LIBDOOR
+fi
+export ORACLE_FOR
+case ${1:-short} in
+    short) n=100000 ;;
+    long) n=1250000 ;;
+    *) n=$1 ;;
+esac
+build_for "$ORACLE_FOR"
 "$here/build.sh" ${RUSSH_TEXT:+"$RUSSH_TEXT"}
-exec "${ORACLE_TARGET:-$here/target}/compare" "${1:-500000}" "${CAPTURES:-$here/../../shared/captures}"
+exec $runner "$target/compare" "$n" "${CAPTURES:-$here/../../shared/captures}"

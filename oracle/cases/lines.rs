@@ -27,7 +27,7 @@ pub fn hex(bytes: &[u8]) -> String {
     parts.join(".")
 }
 
-fn tables(t: &Tables) -> String {
+pub fn tables(t: &Tables) -> String {
     let ids = |ids: &[u32]| hex(&ids.iter().flat_map(|i| i.to_be_bytes()).collect::<Vec<u8>>());
     format!(
         "{} {} {} {} {} {} {} {} {} {} {}",

@@ -6,6 +6,7 @@
 pub mod answer;
 pub mod channels;
 pub mod choice;
+pub mod door;
 pub mod framing;
 pub mod names;
 pub mod negotiation;

@@ -1,5 +1,7 @@
 //! crates/names/specs: Tables, Lookup
 
+use std::sync::LazyLock;
+
 #[derive(Debug, Clone, Copy, PartialEq, Eq)]
 pub enum Kind {
     Kex,
@@ -8,6 +10,12 @@ pub enum Kind {
     Cipher,
     Mac,
     Compression,
+}
+
+impl Kind {
+    /// in the order of their numbers
+    pub const ALL: [Kind; 6] =
+        [Kind::Kex, Kind::Key, Kind::Certificate, Kind::Cipher, Kind::Mac, Kind::Compression];
 }
 
 const KEX: &[&str] = &[
@@ -55,28 +63,24 @@ const MAC: &[&str] =
 
 const COMPRESSION: &[&str] = &["none"];
 
+/// "The certificate name is the key name followed by -cert-v01@openssh.com."
+static CERTIFICATE: LazyLock<Vec<&'static str>> =
+    LazyLock::new(|| KEY.iter().map(|n| &*format!("{n}-cert-v01@openssh.com").leak()).collect());
+
 /// the names of a kind
-pub fn namesOf(k: Kind) -> Vec<Vec<u8>> {
-    let bytes = |table: &[&str], suffix: &str| table.iter().map(|n| format!("{n}{suffix}").into_bytes()).collect();
+pub fn namesOf(k: Kind) -> &'static [&'static str] {
     match k {
-        Kind::Kex => bytes(KEX, ""),
-        Kind::Key => bytes(KEY, ""),
-        // "The certificate name is the key name followed by -cert-v01@openssh.com."
-        Kind::Certificate => bytes(KEY, "-cert-v01@openssh.com"),
-        Kind::Cipher => bytes(CIPHER, ""),
-        Kind::Mac => bytes(MAC, ""),
-        Kind::Compression => bytes(COMPRESSION, ""),
+        Kind::Kex => KEX,
+        Kind::Key => KEY,
+        Kind::Certificate => &CERTIFICATE,
+        Kind::Cipher => CIPHER,
+        Kind::Mac => MAC,
+        Kind::Compression => COMPRESSION,
     }
 }
 
 pub fn count(k: Kind) -> usize {
-    match k {
-        Kind::Kex => KEX.len(),
-        Kind::Key | Kind::Certificate => KEY.len(),
-        Kind::Cipher => CIPHER.len(),
-        Kind::Mac => MAC.len(),
-        Kind::Compression => COMPRESSION.len(),
-    }
+    namesOf(k).len()
 }
 
 /// "The ctr and cbc names need a MAC"
@@ -91,10 +95,10 @@ pub fn builtIn(n: u8) -> bool {
 
 /// a name's number in its kind
 pub fn numberOf(k: Kind, name: &[u8]) -> Option<u8> {
-    namesOf(k).iter().position(|m| m == name).map(|n| n as u8)
+    namesOf(k).iter().position(|m| m.as_bytes() == name).map(|n| n as u8)
 }
 
 /// the name of a number of a kind (a valid one)
-pub fn spelled(k: Kind, n: u8) -> Vec<u8> {
-    namesOf(k)[n as usize].clone()
+pub fn spelled(k: Kind, n: u8) -> &'static [u8] {
+    namesOf(k)[n as usize].as_bytes()
 }

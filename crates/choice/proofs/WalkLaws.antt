@@ -21,29 +21,10 @@ use Rattle.wire.specs.Shown.{part}
 use Rattle.wire.specs.Answers.{nextOf}
 use Rattle.wire.proofs.CutLaws.{walk-end}
 use Rattle.wire.proofs.JudgeLaws.{names-left, name-inside, name-less}
-use Rattle.names.specs.declared.Row.{Row}
-use Rattle.names.specs.declared.Row.the-variants.{At, Nowhere}
-use Rattle.names.specs.Spelled.{rowName}
-use Rattle.names.specs.Lookup.{rowFrom, is, row}
 use Rattle.choice.specs.declared.Side.{Side}
 use Rattle.choice.specs.declared.Side.the-variants.{Client, Server}
 use Rattle.choice.specs.Rows.{chosenRow, offered, rowFor, ownFirst, peerFirst, firstBoth, placeOf, rowAt}
 use Rattle.choice.proofs.PlaceLaws.{row-in, row-out, place-within, first-at, narrow, place-none}
-
--- one row looked up
-module _ (spellings starts lengths name : List ℕ) (at r : ℕ) (e : at ≡ r) (f : Row)
-    (told : row f ≡ rowFrom spellings starts lengths name at (at + 1 - at)) where
-  one-row : row f ≡ pick (is (rowName spellings starts lengths r) name) (some r) none
-  unfolding rowFrom
-  one-row = rw (e, add-sub-cancel-left r 1) at told
-
-  pub spells-yes : (n : ℕ) → f ≡ At n → true ≡ is (rowName spellings starts lengths r) name
-  spells-yes n h = split (is (rowName spellings starts lengths r) name) (λ t. sym t) (λ t. let q = rw (t, h) at one-row in cc)
-
-  pub spells-no : f ≡ Nowhere → false ≡ is (rowName spellings starts lengths r) name
-  spells-no h = split (is (rowName spellings starts lengths r) name) (λ t. let q = rw (t, h) at one-row in cc) (λ t. sym t)
-
-pub ruleset spells-laws = (spells-yes, spells-no)
 
 pub ruleset row-laws = (row-in, row-out)
 
