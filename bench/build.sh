@@ -11,7 +11,8 @@ if [ ! -f "$libdoor" ]; then
     echo "bench: no static library '$libdoor': make it with 'rt staticlib door', or name it by LIBDOOR" >&2
     exit 2
 fi
-ORACLE_FOR=x86_64 "$here/build.sh" "$@"
+libdoor=$(cd "$(dirname "$libdoor")" && pwd)/$(basename "$libdoor")
+ORACLE_FOR=x86_64 env -u LIBDOOR "$here/build.sh" "$@"
 . "$here/machine.sh"
 build_for x86_64
 
@@ -24,16 +25,15 @@ mv "$out/russh/src/door" "$out/russh/src/oracle"
 mkdir "$out/russh/src/door"
 mv "$out/russh/src/oracle" "$out/russh/src/door/oracle"
 cp "$bench/rust.rs" "$out/russh/src/door/mod.rs"
-cp "$libdoor" "$out/lib/libdoor.a"
 
 externs=$(for f in "$target"/lib/lib*.rlib "$target"/lib/lib*.so; do
     name=${f##*/lib} && name=${name%.*}
-    [ "$name" = russh ] || [ "$name" = cases ] || [ "$name" = model ] || echo "--extern $name=$f"
+    case $name in russh | cases | model) ;; *) echo "--extern $name=$f" ;; esac
 done)
 release='--edition 2024 -C opt-level=3 -C codegen-units=1'
 lto=${LTO:+-C lto=$LTO}
 $rustc $release --crate-type rlib --crate-name russh --cfg 'feature="ring"' --cap-lints allow -L "$target/lib" $externs \
     --out-dir "$out/lib" "$out/russh/src/lib.rs"
-$rustc $release $lto --crate-type bin --crate-name bench -L "$target/lib" -L "native=$out/lib" $externs \
-    --extern "russh=$out/lib/librussh.rlib" -o "$out/bench" "$bench/src/main.rs"
+$rustc $release $lto --crate-type bin --crate-name bench -L "$target/lib" $externs \
+    --extern "russh=$out/lib/librussh.rlib" -C link-arg="$libdoor" -o "$out/bench" "$bench/src/main.rs"
 echo "bench: built by $($host_rustc --version), $release $lto"

@@ -1,8 +1,7 @@
 //! Channel opening, confirmation and failure.
 
 use crate::case::{Case, bytes, lent};
-use crate::ours;
-use plain::{ChannelType, Confirmation, Opening, Out, Tcp};
+use crate::library;
 use russh::door::{self, oracle};
 
 fn string(text: &[u8]) -> Vec<u8> {
@@ -14,36 +13,10 @@ pub fn opening(typ: &[u8]) -> Vec<u8> {
     [string(typ), vec![0, 0, 0, 5, 0, 32, 0, 0, 0, 0, 128, 0]].concat()
 }
 
-fn opened(body: &[u8]) -> Out<Opening> {
-    let o = ours::read_open(body);
-    if o.what != ours::DONE {
-        return Err(o.number);
-    }
-    let text = body[o.text_start..o.text_start + o.text_len].to_vec();
-    let originator = body[o.originator_start..o.originator_start + o.originator_len].to_vec();
-    let rest = body[o.rest_start..o.rest_start + o.rest_len].to_vec();
-    let tcp = |host| Tcp { host, port: o.port, originator: originator.clone(), originator_port: o.originator_port };
-    Ok(Opening {
-        typ: match o.typ {
-            0 => ChannelType::Session,
-            1 => ChannelType::X11 { originator, port: o.originator_port },
-            2 => ChannelType::DirectTcpip(tcp(text)),
-            3 => ChannelType::DirectStreamLocal { path: text },
-            4 => ChannelType::ForwardedTcpIp(tcp(text)),
-            5 => ChannelType::ForwardedStreamLocal { path: text },
-            6 => ChannelType::AgentForward,
-            _ => ChannelType::Unknown { typ: text, rest },
-        },
-        recipient_channel: o.recipient_channel,
-        recipient_window_size: o.recipient_window_size,
-        recipient_maximum_packet_size: o.recipient_maximum_packet_size,
-    })
-}
-
 /// Ours on the body, after both gave the same answer.
 pub fn open(name: impl Into<String>, body: &'static [u8]) -> Case {
-    assert_eq!(opened(body), oracle::open(body));
-    Case::new(name, move || ours::read_open(body))
+    assert_eq!(ours::open(body).map(|(opening, _)| opening), oracle::open(body));
+    Case::new(name, move || library::open(body))
 }
 
 pub fn opens() -> Vec<Case> {
@@ -71,41 +44,31 @@ pub fn opens() -> Vec<Case> {
 
 fn confirmation() -> Case {
     let body = bytes([[0, 0, 0, 1], [0, 0, 0, 2], [0, 32, 0, 0], [0, 0, 128, 0]].concat());
-    let c = ours::read_confirmation(body);
-    assert_eq!(c.what, ours::DONE);
-    assert_eq!(
-        oracle::confirmation(body),
-        Ok(Confirmation {
-            recipient_channel: c.recipient_channel,
-            sender_channel: c.sender_channel,
-            initial_window_size: c.initial_window_size,
-            maximum_packet_size: c.maximum_packet_size,
-        })
-    );
-    Case::new("confirmation", move || ours::read_confirmation(body))
+    assert_eq!(ours::confirmation(body), oracle::confirmation(body));
+    Case::new("confirmation", move || library::confirmation(body))
         .against("russh", None, move || door::confirmation(body))
 }
 
 fn failure() -> Case {
     let text: &'static [u8] = b"connect to 192.0.2.7 port 22: refused";
     let mut out = vec![0; 19 + text.len()];
-    assert_eq!(ours::fail(5, 2, text, &mut out).what, ours::DONE);
+    assert_eq!(ours::fail(5, 2, text, &mut out), Ok(out.len()));
     assert_eq!(out, oracle::fail(5, 2, text));
 
     let message = lent(door::session(5).into());
     let mut theirs = Vec::with_capacity(out.len());
-    Case::new("failure, text of 37 bytes", move || ours::fail(5, 2, text, &mut out))
+    Case::new("failure, text of 37 bytes", move || library::fail(5, 2, text, &mut out))
         .against("russh", None, move || door::fail(message, 2, text, &mut theirs))
 }
 
 fn unknown_type() -> Case {
     let mut out = vec![0; 39];
-    assert_eq!(ours::unknown_type(5, &mut out).what, ours::DONE);
+    assert_eq!(ours::unknown_type(5, &mut out), Ok(out.len()));
     assert_eq!(out, oracle::unknown_type(5));
 
     let message = lent(door::session(5).into());
     let mut theirs = Vec::with_capacity(out.len());
-    Case::new("failure for an unknown type", move || ours::unknown_type(5, &mut out))
+    Case::new("failure for an unknown type", move || library::unknown_type(5, &mut out))
         .against("russh", None, move || door::unknown_type(message, &mut theirs))
 }
 

@@ -1,9 +1,9 @@
 //! Clear packets: writing and reading.
 
 use crate::case::{Case, bytes};
-use crate::ours;
+use crate::library;
 use crate::table::number;
-use plain::{Counters, Read};
+use plain::Counters;
 use russh::door::{self, oracle};
 use russh::sshbuffer::SSHBuffer;
 use std::hint::black_box;
@@ -35,10 +35,8 @@ fn memcpy(from: &[u8], to: &mut [u8]) {
 /// Both write the same packet and count alike.
 fn agree(payload: &[u8]) {
     let mut out = vec![0; room(payload)];
-    let sealed = ours::frame_write(payload, 0, 0, &mut out);
-    assert_eq!(sealed.what, ours::DONE);
-    let counters = Counters { seqn: sealed.seqn, bytes: sealed.bytes };
-    assert_eq!((out[..sealed.len].to_vec(), counters), oracle::frame_write(payload, ZERO));
+    let sealed = ours::frame_write(payload, ZERO, &mut out).map(|(len, counters)| (out[..len].to_vec(), counters));
+    assert_eq!(sealed, Ok(oracle::frame_write(payload, ZERO)));
 }
 
 fn write(n: usize) -> Case {
@@ -48,7 +46,7 @@ fn write(n: usize) -> Case {
     let mut theirs = buffer(room(payload));
     let (mut copied, mut again) = (vec![0; n], vec![0; n]);
     let copying = (n == 32_768).then_some(1.6);
-    Case::new(number(n as f64), move || ours::frame_write(payload, 0, 0, &mut out))
+    Case::new(number(n as f64), move || library::frame_write(payload, &mut out))
         .against("russh", (n <= 200).then_some(1.0), move || door::frame_write(payload, &mut theirs))
         .against("memcpy", copying, move || memcpy(payload, &mut copied))
         .against(SSE2, copying, move || memcpy(payload, &mut again))
@@ -62,7 +60,7 @@ fn write_each(most: usize) -> Case {
     let mut theirs = buffer(room(payload));
     let ours = move || {
         for n in 0..=most {
-            black_box(ours::frame_write(&payload[..n], 0, 0, &mut out));
+            black_box(library::frame_write(&payload[..n], &mut out));
         }
     };
     Case::new(format!("each of 0 to {most}, added up"), ours).against("russh", Some(1.0), move || {
@@ -78,24 +76,10 @@ pub fn writes() -> Vec<Case> {
     cases
 }
 
-fn ours_read(s: &[u8]) -> Result<Read, u8> {
-    let f = ours::frame_read(s, 0, 0);
-    match f.what {
-        ours::DONE => Ok(Read::Packet {
-            payload: s[f.start..f.start + f.len].to_vec(),
-            end: f.end,
-            taken: f.taken,
-            counters: Counters { seqn: f.seqn, bytes: f.bytes },
-        }),
-        ours::NEED => Ok(Read::Need(f.need)),
-        _ => Err(f.number),
-    }
-}
-
 fn read(name: &str, input: &'static [u8]) -> Case {
-    assert_eq!(ours_read(input), oracle::frame_read(input, ZERO));
+    assert_eq!(ours::frame_read(input, ZERO).map(|(read, _)| read), oracle::frame_read(input, ZERO));
     let mut theirs = buffer(input.len());
-    Case::new(name, move || ours::frame_read(input, 0, 0)).under(100.0).against("russh", None, move || {
+    Case::new(name, move || library::frame_read(input)).under(100.0).against("russh", None, move || {
         theirs.len = 0; // the Rust keeps an announced length after a refusal
         door::frame_read(input, &mut theirs)
     })

@@ -1,8 +1,8 @@
 //! KEXINIT of the default tables: reading what real peers sent, and writing.
 
 use crate::case::{Case, lent};
-use crate::ours;
-use plain::{Counters, Names, Out, Read, Side, Tables};
+use crate::library;
+use plain::{Counters, Read, Side, Tables};
 use russh::door::{self, oracle};
 use ssh_key::{Algorithm, EcdsaCurve, PrivateKey};
 use std::path::Path;
@@ -34,28 +34,10 @@ pub fn ends() -> [End; 2] {
     ]
 }
 
-fn settled(n: ours::Names) -> Out<Names> {
-    if n.what != ours::DONE {
-        return Err(n.number);
-    }
-    Ok(Names {
-        kex: n.kex,
-        key: n.key,
-        cipher: n.cipher,
-        client_mac: n.client_mac,
-        server_mac: n.server_mac,
-        client_compression: n.client_compression,
-        server_compression: n.server_compression,
-        host_key_is_certificate: n.host_key_is_certificate,
-        ignore_guessed: n.ignore_guessed,
-        strict_kex: n.strict_kex,
-    })
-}
-
 /// Ours on the payload, after both gave the same answer.
 pub fn read(name: String, end: End, payload: &'static [u8]) -> Case {
-    assert_eq!(settled(ours::read_kex(end.tables, false, payload)), oracle::read_kex(end.tables, false, payload));
-    Case::new(name, move || ours::read_kex(end.tables, false, payload))
+    assert_eq!(ours::read_kex(end.tables, false, payload), oracle::read_kex(end.tables, false, payload));
+    Case::new(name, move || library::read_kex(end.tables, payload))
 }
 
 fn captured(folder: &Path) -> Vec<(String, Vec<u8>)> {
@@ -88,19 +70,15 @@ pub fn reads(captures: &Path) -> Vec<Case> {
 
 /// To the same end as the Rust's: the payload, and its packet beside it.
 fn write(end: End) -> Case {
-    let (mut payload, mut packet) = (vec![0; 4_096], vec![0; 4_112]);
     let cookie: &'static [u8; 16] = &[7; 16];
-    let mut both = move || {
-        let w = ours::write_kex(end.tables, cookie, &mut payload);
-        let sealed = ours::frame_write(&payload[..w.len], 0, 0, &mut packet);
-        (w, sealed)
-    };
-    let (w, sealed) = both();
-    assert_eq!((w.what, sealed.what), (ours::DONE, ours::DONE));
-    let mut written = vec![0; 4_096];
-    let w = ours::write_kex(end.tables, cookie, &mut written);
-    assert_eq!(written[..w.len], oracle::write_kex(end.tables, cookie));
+    let (mut payload, mut packet) = (vec![0; 4_096], vec![0; 4_112]);
+    let written = ours::write_kex(end.tables, cookie, &mut payload).map(|len| payload[..len].to_vec());
+    assert_eq!(written, Ok(oracle::write_kex(end.tables, cookie)));
 
+    let both = move || {
+        let w = library::write_kex(end.tables, cookie, &mut payload);
+        (library::frame_write(&payload[..w.len], &mut packet), w)
+    };
     let mut writer = door::Writer::with_capacity(4_112);
     Case::new(format!("as {}", end.name), both).against("russh", None, move || {
         door::write_kex(end.theirs, cookie, &mut writer)

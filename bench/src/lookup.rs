@@ -1,7 +1,7 @@
 //! A name's number, against `==` over the kind's names one by one.
 
 use crate::case::{Case, bytes, lent};
-use crate::ours;
+use crate::library;
 use std::hint::black_box;
 
 /// Kinds in the header's order, each with a name that the Rust knows, or once knew, and we do not.
@@ -20,24 +20,20 @@ fn linear(table: &[&str], name: &[u8]) -> Option<usize> {
 }
 
 fn agree(kind: u8, table: &[&str], name: &[u8]) {
-    let found = ours::lookup(kind, name);
-    match linear(table, name) {
-        Some(place) => assert_eq!((found.what, found.value as usize), (ours::DONE, place)),
-        None => assert_eq!(found.what, ours::UNKNOWN),
-    }
+    assert_eq!(ours::lookup(kind, name).map(|found| found.map(usize::from)), Ok(linear(table, name)));
 }
 
 fn lookup(case: String, kind: u8, table: &'static [&'static str], name: &str) -> Case {
     let name = bytes(name.as_bytes().to_vec());
     agree(kind, table, name);
-    Case::new(case, move || ours::lookup(kind, name)).against("linear ==", Some(2.0), move || linear(table, name))
+    Case::new(case, move || library::lookup(kind, name)).against("linear ==", Some(2.0), move || linear(table, name))
 }
 
 fn each(case: String, kind: u8, table: &'static [&'static str]) -> Case {
     table.iter().for_each(|name| agree(kind, table, name.as_bytes()));
     let ours = move || {
         for name in table {
-            black_box(ours::lookup(kind, name.as_bytes()));
+            black_box(library::lookup(kind, name.as_bytes()));
         }
     };
     Case::new(case, ours).against("linear ==", Some(2.0), move || {
@@ -47,9 +43,14 @@ fn each(case: String, kind: u8, table: &'static [&'static str]) -> Case {
     })
 }
 
+fn spelling(kind: u8, number: u8) -> Option<&'static str> {
+    let mut out = [0; 64];
+    let len = ours::spelling(kind, number, &mut out).ok()?;
+    Some(lent(String::from_utf8(out[..len].to_vec()).expect("a name is ASCII").into_boxed_str()))
+}
+
 fn table(kind: u8) -> &'static [&'static str] {
-    let names = (0..).map_while(|n| ours::spelling(kind, n)).map(|name| lent(name.into_boxed_str()));
-    lent(names.collect::<Vec<&str>>().into_boxed_slice())
+    lent((0..).map_while(|number| spelling(kind, number)).collect::<Vec<&str>>().into_boxed_slice())
 }
 
 /// A name of the same length that differs in its last byte.
