@@ -36,7 +36,7 @@ x86_64)
     ;;
 *)
     runner=qemu-x86_64
-    command -v cc >/dev/null || { echo "bench: no cc for the emulator's plugin: apt-get install gcc libc6-dev" >&2; exit 2; }
+    command -v cc >/dev/null || { echo "bench: no cc for the plugin: apt-get install gcc libc6-dev" >&2; exit 2; }
     cc -O2 -Wall -Wextra -shared -fPIC -o count.so ../count.c
     counter="qemu-x86_64 -plugin ./count.so"
     counted='s/^instructions: //p'

@@ -1,6 +1,6 @@
 //! The Rust's functions as they are measured: what a caller has at hand (preferences, keys, buffers) is prepared apart
-//! from the call. Built as the module `door` of the oracle's tree, where what is private to the crate can be reached; the
-//! oracle's own door, which makes a side's tables anew for each call, stands beside it for the answers that ours must equal.
+//! from the call. Built as the module `door` of the oracle's tree, where what is private to the crate can be reached. The
+//! oracle's own door, which makes a side's tables anew for each call, stands beside it for the answers in numbers.
 //! Nothing here is inlined into its caller, as nothing of our library can be.
 
 pub mod oracle;

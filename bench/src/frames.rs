@@ -3,7 +3,7 @@
 use crate::case::{Case, bytes};
 use crate::library;
 use crate::table::number;
-use plain::Counters;
+use plain::{Counters, Read};
 use russh::door::{self, oracle};
 use russh::sshbuffer::SSHBuffer;
 use std::hint::black_box;
@@ -35,8 +35,11 @@ fn memcpy(from: &[u8], to: &mut [u8]) {
 /// Both write the same packet and count alike.
 fn agree(payload: &[u8]) {
     let mut out = vec![0; room(payload)];
-    let sealed = ours::frame_write(payload, ZERO, &mut out).map(|(len, counters)| (out[..len].to_vec(), counters));
-    assert_eq!(sealed, Ok(oracle::frame_write(payload, ZERO)));
+    let ours = ours::frame_write(payload, ZERO, &mut out).map(|(len, counters)| (out[..len].to_vec(), counters));
+    let mut theirs = buffer(room(payload));
+    door::frame_write(payload, &mut theirs);
+    let counters = Counters { seqn: theirs.seqn.0, bytes: theirs.bytes as u64 };
+    assert_eq!(ours, Ok((theirs.buffer, counters)));
 }
 
 fn write(n: usize) -> Case {
@@ -77,8 +80,10 @@ pub fn writes() -> Vec<Case> {
 }
 
 fn read(name: &str, input: &'static [u8]) -> Case {
-    assert_eq!(ours::frame_read(input, ZERO).map(|(read, _)| read), oracle::frame_read(input, ZERO));
+    let answer = oracle::frame_read(input, ZERO);
+    assert_eq!(ours::frame_read(input, ZERO).map(|(read, _)| read), answer);
     let mut theirs = buffer(input.len());
+    assert_eq!(door::frame_read(input, &mut theirs).is_ok(), matches!(answer, Ok(Read::Packet { .. })));
     Case::new(name, move || library::frame_read(input)).under(100.0).against("russh", None, move || {
         theirs.len = 0; // the Rust keeps an announced length after a refusal
         door::frame_read(input, &mut theirs)

@@ -36,7 +36,9 @@ pub fn ends() -> [End; 2] {
 
 /// Ours on the payload, after both gave the same answer.
 pub fn read(name: String, end: End, payload: &'static [u8]) -> Case {
-    assert_eq!(ours::read_kex(end.tables, false, payload), oracle::read_kex(end.tables, false, payload));
+    let answer = oracle::read_kex(end.tables, false, payload);
+    assert_eq!(ours::read_kex(end.tables, false, payload), answer);
+    assert_eq!(door::read_kex(end.theirs, payload).is_ok(), answer.is_ok());
     Case::new(name, move || library::read_kex(end.tables, payload))
 }
 
@@ -72,14 +74,15 @@ pub fn reads(captures: &Path) -> Vec<Case> {
 fn write(end: End) -> Case {
     let cookie: &'static [u8; 16] = &[7; 16];
     let (mut payload, mut packet) = (vec![0; 4_096], vec![0; 4_112]);
-    let written = ours::write_kex(end.tables, cookie, &mut payload).map(|len| payload[..len].to_vec());
-    assert_eq!(written, Ok(oracle::write_kex(end.tables, cookie)));
+    let mut writer = door::Writer::with_capacity(4_112);
+    let ours = ours::write_kex(end.tables, cookie, &mut payload).map(|len| payload[..len].to_vec());
+    let theirs = door::write_kex(end.theirs, cookie, &mut writer).expect("the default tables can be written");
+    assert_eq!(ours, Ok(theirs.as_ref().to_vec()));
 
     let both = move || {
         let w = library::write_kex(end.tables, cookie, &mut payload);
         (library::frame_write(&payload[..w.len], &mut packet), w)
     };
-    let mut writer = door::Writer::with_capacity(4_112);
     Case::new(format!("as {}", end.name), both).against("russh", None, move || {
         door::write_kex(end.theirs, cookie, &mut writer)
     })

@@ -4,7 +4,7 @@ use crate::case::{Case, bytes, lent};
 use crate::library;
 use std::hint::black_box;
 
-/// Kinds in the header's order, each with a name that the Rust knows, or once knew, and we do not.
+/// Kinds in the header's order, each with a name that peers list and we do not know.
 const KINDS: [(&str, &str); 6] = [
     ("kex", "diffie-hellman-group14-sha1"),
     ("key", "ssh-dss"),
