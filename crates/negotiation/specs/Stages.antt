@@ -21,7 +21,7 @@ use Rattle.negotiation.specs.declared.pick.Picked.{Picked}
 use Rattle.negotiation.specs.declared.pick.Picked.the-variants.{Row, Refused as Unpicked}
 use Rattle.negotiation.specs.declared.pick.Ruling.{Ruling}
 use Rattle.negotiation.specs.declared.pick.Ruling.the-variants.{Row as Ruled, Refused as Unruled}
-use Rattle.negotiation.specs.declared.stages.Rows.{Rows}
+use Rattle.negotiation.specs.declared.rows.Rows.{Rows}
 
 -- a choice under a rule: a shared name is needed; needed, and not `none`; or its lack is `none`. 38 is the row of the MAC
 -- `none`.
