@@ -2,6 +2,7 @@
 //! the library (no `--cfg library`) it compares the model with the oracle alone.
 //!   compare N FOLDER-OF-CAPTURES [first]      first: ends at the first disagreement
 
+mod counts;
 mod modelled;
 mod question;
 mod tally;
