@@ -5,6 +5,7 @@
 mod counts;
 mod modelled;
 mod question;
+mod rows;
 mod tally;
 
 #[cfg(library)]
@@ -145,12 +146,14 @@ fn main() {
         assert_eq!(tables[0], tables[1], "default tables");
     }
     println!("  the default tables are Preferred::DEFAULT's");
+    println!("The rows on as small an input as shows each:");
+    let rows = rows::hold();
     let tried = document();
 
     println!("   oracle     model  (cases compared with the oracle; with the model alone)");
     exhaustively(&mut tally, &folder);
     randomly(&mut tally, n);
     with_library(&mut tally, n);
-    let right = tally.report() && shown && tried;
+    let right = tally.report() && shown && rows && tried;
     std::process::exit(!right as i32);
 }
