@@ -113,7 +113,7 @@ harupesat_sealed harupesat_frame_write(const uint8_t *payload, size_t payload_le
  *
  * A side's tables: six preference lists of numbers, up to 16 each, best first; of a server up to 8 key rows and up to 8
  * certificate rows, two columns each (kinds, identities), of one length. Equal identity stands for equal public key data.
- * A client lends no rows. */
+ * A client lends no rows. A server's certificate list is not used, and is judged for 9 all the same. */
 
 typedef struct {
     uint8_t what;

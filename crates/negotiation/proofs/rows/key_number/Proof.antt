@@ -1,10 +1,10 @@
 use Rattle.negotiation.proofs.RecordLaws.{place-certificate, place-key}
 use borrow.Author.Needs.{needs}
-use Rattle.negotiation.proofs.stages.key_number.Statement.{statement}
-use Rattle.negotiation.proofs.stages.key_number.Tie as tie
-use Rattle.negotiation.proofs.stages.key_number.Reads as reads
-use Rattle.negotiation.proofs.stages.key_number.Lts as lts
-use Rattle.negotiation.proofs.stages.less.Reads as less-reads
+use Rattle.negotiation.proofs.rows.key_number.Statement.{statement}
+use Rattle.negotiation.proofs.rows.key_number.Tie as tie
+use Rattle.negotiation.proofs.rows.key_number.Reads as reads
+use Rattle.negotiation.proofs.rows.key_number.Lts as lts
+use Rattle.negotiation.proofs.rows.less.Reads as less-reads
 
 less-requires : tie.Need-less-requires
 less-requires c κs = search needs

@@ -1,11 +1,11 @@
 use Rattle.negotiation.specs.Stages.{recorded}
 use borrow.Author.Needs.{needs}
-use Rattle.negotiation.proofs.stages.record.Statement.{statement}
-use Rattle.negotiation.proofs.stages.record.Tie as tie
-use Rattle.negotiation.proofs.stages.record.Reads as reads
-use Rattle.negotiation.proofs.stages.record.Lts as lts
-use Rattle.negotiation.proofs.stages.key_number.Reads as key-number-reads
-use Rattle.negotiation.proofs.stages.less.Reads as less-reads
+use Rattle.negotiation.proofs.rows.record.Statement.{statement}
+use Rattle.negotiation.proofs.rows.record.Tie as tie
+use Rattle.negotiation.proofs.rows.record.Reads as reads
+use Rattle.negotiation.proofs.rows.record.Lts as lts
+use Rattle.negotiation.proofs.rows.key_number.Reads as key-number-reads
+use Rattle.negotiation.proofs.rows.less.Reads as less-reads
 
 key-number-requires : tie.Need-key-number-requires
 key-number-requires c κs = search needs
