@@ -138,7 +138,8 @@ fn main() {
     let mut args = std::env::args().skip(1);
     let n: usize = args.next().map_or(500_000, |a| a.parse().expect("N is a number"));
     let folder = args.next().unwrap_or_default();
-    let mut tally = Tally::new(args.next().is_some());
+    let first = args.next().is_some();
+    let mut tally = Tally::new(first);
 
     let shown = differences();
     for side in [Side::Client, Side::Server] {
@@ -151,6 +152,11 @@ fn main() {
     let tried = document();
 
     println!("   oracle     model  (cases compared with the oracle; with the model alone)");
+    if first {
+        // most mutants are seen by a few random cases
+        randomly(&mut tally, n / 50);
+        with_library(&mut tally, n / 50);
+    }
     exhaustively(&mut tally, &folder);
     randomly(&mut tally, n);
     with_library(&mut tally, n);

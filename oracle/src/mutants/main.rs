@@ -33,6 +33,9 @@ fn main() {
         "code" => trial::code,
         _ => panic!("mutants of definitions, text or code"),
     };
+    if kind == "code" {
+        trial::unchanged_code(&s);
+    }
     let (mut right, mut wrong) = (0, 0);
     for m in list::parsed(&table) {
         let seen = try_it(&s, &m);

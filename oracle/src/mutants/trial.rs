@@ -4,7 +4,7 @@ use crate::Setting;
 use crate::list::Mutant;
 use std::ffi::OsStr;
 use std::fs;
-use std::path::Path;
+use std::path::{Path, PathBuf};
 use std::process::{Command, Output};
 
 pub struct Seen {
@@ -35,18 +35,29 @@ pub fn text(s: &Setting, m: &Mutant) -> Seen {
     compared(s)
 }
 
-/// Our code with one thing changed, unproved, against the recorded answers: the program that replays them must fail.
+/// Our code with one thing changed, unproved, over the recorded answers of the Rust.
 pub fn code(s: &Setting, m: &Mutant) -> Seen {
-    let work = emptied(s);
-    let repository = s.oracle.join("..");
-    copy(&repository.join("crates"), &work.join("crates"));
-    fs::copy(repository.join("crates.txt"), work.join("crates.txt")).expect("crates.txt");
+    let work = repository(s);
     m.apply(&work);
-    let run = Command::new("rt").args(["try", "replay"]).current_dir(&work).output().expect("rt runs");
-    Seen { caught: !run.status.success(), how: replayed(&run) }
+    replayed(&work)
 }
 
-fn emptied(s: &Setting) -> std::path::PathBuf {
+/// The same with nothing changed: else a slip would be seen for another reason.
+pub fn unchanged_code(s: &Setting) {
+    let seen = replayed(&repository(s));
+    assert!(!seen.caught, "the replay fails with nothing changed{}", seen.how);
+}
+
+/// A copy of the crates. `rt try` compiles all of them as one, where a module may not be named as a crate is: wire's module
+/// `lists` gets another name in the copy.
+fn repository(s: &Setting) -> PathBuf {
+    let (work, repository) = (emptied(s), s.oracle.join(".."));
+    copy(&repository.join("crates"), &work.join("crates"));
+    fs::copy(repository.join("crates.txt"), work.join("crates.txt")).expect("crates.txt");
+    work
+}
+
+fn emptied(s: &Setting) -> PathBuf {
     let work = s.work();
     let _ = fs::remove_dir_all(&work);
     fs::create_dir_all(&work).expect("a folder for the mutant");
@@ -120,9 +131,26 @@ fn disagreement(run: &Output) -> String {
     format!(" | {function} | {}", said.join("; "))
 }
 
-fn replayed(run: &Output) -> String {
+/// The program's own output is held to what is recorded, compiled at -O0 and at -O3; the run with the compiler's assumptions
+/// checked may take longer than `rt try` waits.
+fn replayed(work: &Path) -> Seen {
+    apart(work);
+    let run = Command::new("rt").args(["try", "replay"]).current_dir(work).output().expect("rt runs");
     let text = [&run.stdout[..], &run.stderr[..]].concat();
     let text = String::from_utf8_lossy(&text);
-    let last = text.lines().filter(|l| !l.trim().is_empty()).last().unwrap_or_default();
-    format!(" | {}", last.chars().take(100).collect::<String>())
+    let ended = |level: &str, how: &str| text.lines().any(|l| l.contains(level) && l.ends_with(how));
+    let (fine, other) = ("ended and wrote what is expected", "ended, but did not write what is expected");
+    let all = |how| ["at -O0", "at -O3"].iter().all(|level| ended(level, how));
+    assert!(all(fine) || all(other), "the replay was not run: {text}");
+    let found = text.split_once("found \"").map_or("", |(_, found)| found.split("\\n").next().unwrap_or_default());
+    Seen { caught: all(other), how: format!(" | {}", found.chars().take(90).collect::<String>()) }
+}
+
+fn apart(work: &Path) {
+    let src = work.join("crates/wire/src");
+    if src.join("lists.rt").exists() {
+        fs::rename(src.join("lists.rt"), src.join("named.rt")).expect("a module renamed");
+        let text = fs::read_to_string(src.join("lib.rt")).expect("wire's modules");
+        fs::write(src.join("lib.rt"), text.replace("mod lists;", "mod named;")).expect("wire's modules");
+    }
 }
