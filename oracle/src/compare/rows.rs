@@ -141,7 +141,7 @@ fn added() -> Vec<Row> {
     (kinds.cert_kinds, kinds.cert_ids) = (vec![0], vec![1]);
     let end = Counters { seqn: 0, bytes: u64::MAX };
     vec![
-        beyond("X1", sealed(1, end, 16), "ok 0000000c0a000000000000000000000000 1 18446744073709551615"),
+        beyond("X1", sealed(1, end, 16), "ok 0000000c0a0000000000000000000000 1 18446744073709551615"),
         case("X2", Case::FrameWrite { payload: vec![], counters: ZERO }, "ok 0000000c0b0000000000000000000000 1 0"),
         packet("X4", &[0, 0, 0, 1, 2], "no 7"),
         beyond("X5, R14", read(least(Side::Client), 262177), "no 1"),

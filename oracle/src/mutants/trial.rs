@@ -108,7 +108,7 @@ fn program(s: &Setting, made: &[&str], more: &[&str]) {
     rustc(s, made, &[&words[..], &[out.as_os_str(), source.as_os_str()]].concat());
 }
 
-/// Status 1 is a disagreement; a mutant that ends otherwise was not compared.
+/// A mutant that breaks off was not compared.
 fn compared(s: &Setting) -> Seen {
     let program = s.work().join("compare");
     let runner = std::env::var("RUNNER").unwrap_or_default();
@@ -118,7 +118,8 @@ fn compared(s: &Setting) -> Seen {
     }
     let run = command.args([&s.n, &s.captures]).arg("first").output().expect("the comparison runs");
     assert!(matches!(run.status.code(), Some(0 | 1)), "the comparison broke off: {run:?}");
-    Seen { caught: run.status.code() == Some(1), how: disagreement(&run) }
+    let caught = String::from_utf8_lossy(&run.stdout).lines().any(|l| l.starts_with("disagreement"));
+    Seen { caught, how: disagreement(&run) }
 }
 
 /// the function, and what each said
