@@ -35,12 +35,12 @@ same_names() { # WHO NAMES
 symbols() {
     exported=$("$NM" --defined-only --extern-only "$LIBDOOR" | awk 'NF == 3 { print $3 }' | sort -u)
     same_names 'the library exports' "$exported"
-    wanted=$("$NM" -u "$LIBDOOR" | awk '$1 == "U" { print $2 }' | sort -u | tr '\n' ' ')
-    if [ "$wanted" != 'memcpy memset ' ]; then
-        echo "header: the library wants not memset and memcpy alone, but $wanted" >&2
+    wanted=$("$NM" -u "$LIBDOOR" | awk '$1 == "U" { print $2 }' | sort -u | grep -vx 'memcpy\|memset' || true)
+    if [ -n "$wanted" ]; then
+        echo "header: the library wants more than memcpy and memset: $wanted" >&2
         exit 1
     fi
-    echo "header: the library wants memset and memcpy, and nothing else"
+    echo "header: the library wants no more than memcpy and memset"
 }
 
 # $RUN is empty on x86-64, and $LINK too.

@@ -2,7 +2,7 @@
  *
  * The functions of crates/door, for C and whatever speaks C's calling convention. The static library is made by
  *
- *     rt staticlib door          -> target/staticlib/libdoor.a      (x86-64; needs memset and memcpy, nothing else)
+ *     rt staticlib door          -> target/staticlib/libdoor.a      (x86-64; wants no more than memcpy and memset)
  *
  * Slices are a pointer and a count of elements; an empty one may be null. Nothing is kept, allocated or copied: an answer
  * is a struct by value, and a text in it is a place in the bytes that the caller lent. Any bytes, numbers, tables and

@@ -10,6 +10,7 @@ use framing::GotPacket;
 use framing::Sealed;
 use negotiation::GotNames;
 use put::Put;
+use say::front;
 
 // "Payload 262,168: 4", and the packet of the largest payload.
 const TOO_LARGE: usize = 262168;
@@ -40,14 +41,6 @@ fn hex(s: &[u8]) {
         io::print_hex(1, wide(s[i]), 2);
         i += 1;
     }
-}
-
-// The first n bytes, or all where there are fewer.
-fn front(s: &[u8], n: usize) -> &[u8] {
-    if s.len() < n {
-        return s;
-    }
-    &s[..n]
 }
 
 fn padding(packet: &[u8]) -> u64 {

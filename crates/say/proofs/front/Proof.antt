@@ -1,0 +1,16 @@
+-- `say::front`: a part of it, or all. Assumes nothing.
+use lib.ListN.{length-take}
+use native.Mathlib.Omega.{arith}
+use Rattle.preferred.proofs.MadeLaws.{front-all}
+use borrow.Author.Needs.{needs}
+use Rattle.say.proofs.front.Statement.{statement}
+use Rattle.say.proofs.front.Tie as tie
+
+slice-aggregate-result : tie.Need-slice-aggregate-result
+slice-aggregate-result c = simp length-take (omega arith)
+
+returns-2 : tie.Need-returns-2
+returns-2 c = search front-all
+
+pub front-spec : {M : Type 1} → statement M
+front-spec = tie.close (tie.spec slice-aggregate-result (λ c. search needs) returns-2)
