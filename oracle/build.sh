@@ -2,7 +2,8 @@
 # Builds the oracle: 16 files of russh 0.65.0, unchanged, with stand-ins for what is absent.
 #   oracle/build.sh [FOLDER OF THE RUST'S TEXT]      (../shared/docs/src beside the repository, where none is given)
 # ORACLE_FOR: host (where none is given), or x86_64 for what links our static library: machine.sh says by what.
-# LIBDOOR: our static library, if it is to be compared too.
+# LIBDOOR: our static library, if it is to be compared too (x86_64 alone).
+# ORACLE_LTO: not empty, the comparison is optimised across crates.
 # Needs rustc alone: no registry, no network. What is built stands in oracle/target/.
 set -eu
 here=$(cd "$(dirname "$0")" && pwd)
@@ -57,9 +58,9 @@ $rustc --edition 2024 -O --crate-type rlib --crate-name russh --cfg 'feature="ri
 lib cases "$here/cases/lib.rs"
 lib model "$here/model/lib.rs"
 lib ours "$here/src/ours/lib.rs"
-for name in record mutants; do
-    $rustc --edition 2024 -O --crate-type bin --crate-name $name -L "$target/lib" -o "$target/$name" "$here/src/$name.rs" $(externs)
-done
-$rustc --edition 2024 -O --crate-type bin --crate-name compare ${LIBDOOR:+--cfg library -C link-arg="$LIBDOOR"} \
+$rustc --edition 2024 -O --crate-type bin --crate-name record -L "$target/lib" -o "$target/record" "$here/src/record.rs" $(externs)
+library=''
+if [ "${ORACLE_FOR:-host}" = x86_64 ] && [ -n "${LIBDOOR:-}" ]; then library="--cfg library -C link-arg=$LIBDOOR"; fi
+$rustc --edition 2024 -O ${ORACLE_LTO:+-C lto=fat -C codegen-units=1} --crate-type bin --crate-name compare $library \
     -L "$target/lib" -o "$target/compare" "$here/src/compare/main.rs" $(externs)
 echo "oracle: 16 files as in SHA256SUMS, built"

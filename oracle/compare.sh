@@ -1,9 +1,9 @@
 #!/bin/sh
 # Compares our static library with the Rust's text (the oracle) and with the model, and reports every disagreement with
 # its smallest input. Exit status 1: they disagree, a number never came up, or a row of docs/DIFFERENCES.md is not so.
-#   oracle/compare.sh               the short run: 100,000 random cases of each family
-#   oracle/compare.sh long          the long run: 1,250,000 of each, over 10 million in all
-#   oracle/compare.sh N             N of each
+#   oracle/compare.sh               the short run: N is 50,000
+#   oracle/compare.sh long          the long run: N is 520,000, over 10 million cases in all
+#   oracle/compare.sh N             N random KEXINITs of each family, three times as many of what is shorter
 #   oracle/compare.sh model [N]     the model with the oracle alone, on any machine and without the library
 # LIBDOOR: the library (target/staticlib/libdoor.a where none is given); RUSSH_TEXT: the folder of the Rust's text;
 # CAPTURES: real first packets. The last two default to folders beside the repository.
@@ -15,15 +15,13 @@ if [ "${1:-}" = model ]; then
     unset LIBDOOR
     ORACLE_FOR=host
 else
-    LIBDOOR=${LIBDOOR:-$here/../target/staticlib/libdoor.a}
-    [ -f "$LIBDOOR" ] || { echo "oracle: no library '$LIBDOOR': make it by 'rt staticlib door'" >&2; exit 2; }
+    need_library
     ORACLE_FOR=x86_64
-    export LIBDOOR
 fi
 export ORACLE_FOR
 case ${1:-short} in
-    short) n=100000 ;;
-    long) n=1250000 ;;
+    short) n=50000 ;;
+    long) n=520000; export ORACLE_LTO=1 ;; # worth a fifth of an emulator's time
     *) n=$1 ;;
 esac
 build_for "$ORACLE_FOR"

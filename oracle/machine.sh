@@ -6,6 +6,7 @@
 #                                     host_rustc  the same compiler for what runs while compiling (a proc-macro)
 #                                     runner      what runs the result: nothing, or the emulator
 #                                     target      where the oracle's build stands (ORACLE_TARGET, if set)
+#   need_library                sets LIBDOOR, our static library: target/staticlib/libdoor.a where it is not set
 # `here` is this folder.
 
 triple=x86_64-unknown-linux-gnu
@@ -40,4 +41,11 @@ build_for() {
     command -v qemu-x86_64 >/dev/null || machine_lacks "no qemu-x86_64 to run with"
     rustc="$host_rustc --target $triple -C linker=x86_64-linux-gnu-gcc"
     runner=qemu-x86_64 target=${ORACLE_TARGET:-$here/target/x86_64}
+}
+
+need_library() {
+    export LIBDOOR="${LIBDOOR:-$here/../target/staticlib/libdoor.a}"
+    [ -f "$LIBDOOR" ] && return
+    echo "oracle: no static library at '$LIBDOOR': make it by 'rt staticlib door', or say where it is by LIBDOOR" >&2
+    exit 2
 }

@@ -1,38 +1,44 @@
-//! crates/door/specs: what the exported functions say beyond the crates under them
+//! crates/door/specs/Kinds: names asked by the number of their kind. The structs that cross (Numbers) are src/ours.
 
-use crate::answer::{Out, guard};
-use crate::names::{Kind, builtIn, count, needMac, numberOf, spelled};
-use crate::preferred::defaultList;
+use crate::answer::{Out, guard, refuse};
+use crate::names::{Kind, count, numberOf, spelled};
+use crate::preferred::{DEFAULT_CIPHER, DEFAULT_COMPRESSION, DEFAULT_KEX, DEFAULT_KEY, DEFAULT_MAC};
 
-/// a kind by its number
-pub fn kindAt(kind: u8) -> Out<Kind> {
-    guard(9, (kind as usize) < Kind::ALL.len())?;
-    Ok(Kind::ALL[kind as usize])
+fn kindOf(n: u8) -> Out<Kind> {
+    match n {
+        0 => Ok(Kind::Kex),
+        1 => Ok(Kind::Key),
+        2 => Ok(Kind::Certificate),
+        3 => Ok(Kind::Cipher),
+        4 => Ok(Kind::Mac),
+        5 => Ok(Kind::Compression),
+        _ => refuse(9),
+    }
 }
 
-pub fn spelling(kind: u8, number: u8) -> Out<&'static [u8]> {
-    let k = kindAt(kind)?;
+pub fn nameOf(kind: u8, number: u8) -> Out<Vec<u8>> {
+    let k = kindOf(kind)?;
     guard(9, (number as usize) < count(k))?;
-    Ok(spelled(k, number))
+    Ok(spelled(k, number).to_vec())
 }
 
-pub fn lookup(kind: u8, name: &[u8]) -> Out<Option<u8>> {
-    Ok(numberOf(kindAt(kind)?, name))
+pub fn namedOf(kind: u8, name: &[u8]) -> Out<Option<u8>> {
+    let k = kindOf(kind)?;
+    Ok(numberOf(k, name))
 }
 
-fn flag(test: fn(u8) -> bool, cipher: u8) -> Out<bool> {
-    guard(9, (cipher as usize) < count(Kind::Cipher))?;
-    Ok(test(cipher))
+fn defaultOf(k: Kind) -> &'static [u8] {
+    match k {
+        Kind::Kex => DEFAULT_KEX,
+        Kind::Key => DEFAULT_KEY,
+        Kind::Certificate => &[],
+        Kind::Cipher => DEFAULT_CIPHER,
+        Kind::Mac => DEFAULT_MAC,
+        Kind::Compression => DEFAULT_COMPRESSION,
+    }
 }
 
-pub fn needsMac(cipher: u8) -> Out<bool> {
-    flag(needMac, cipher)
-}
-
-pub fn builtInIntegrity(cipher: u8) -> Out<bool> {
-    flag(builtIn, cipher)
-}
-
-pub fn defaults(kind: u8) -> Out<Vec<u8>> {
-    Ok(defaultList(kindAt(kind)?))
+pub fn defaultList(kind: u8) -> Out<Vec<u8>> {
+    let k = kindOf(kind)?;
+    Ok(defaultOf(k).to_vec())
 }

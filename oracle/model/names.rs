@@ -1,5 +1,6 @@
-//! crates/names/specs: Tables, Lookup
+//! crates/names/specs: Tables, Spelled, Lookup
 
+use crate::answer::{Out, guard};
 use std::sync::LazyLock;
 
 #[derive(Debug, Clone, Copy, PartialEq, Eq)]
@@ -10,12 +11,6 @@ pub enum Kind {
     Cipher,
     Mac,
     Compression,
-}
-
-impl Kind {
-    /// in the order of their numbers
-    pub const ALL: [Kind; 6] =
-        [Kind::Kex, Kind::Key, Kind::Certificate, Kind::Cipher, Kind::Mac, Kind::Compression];
 }
 
 const KEX: &[&str] = &[
@@ -91,6 +86,19 @@ pub fn needMac(n: u8) -> bool {
 /// "gcm and chacha20 have built-in integrity"
 pub fn builtIn(n: u8) -> bool {
     CIPHER[n as usize].contains("gcm") || CIPHER[n as usize].contains("chacha20")
+}
+
+fn flag(test: fn(u8) -> bool, n: u8) -> Out<bool> {
+    guard(9, (n as usize) < CIPHER.len())?;
+    Ok(test(n))
+}
+
+pub fn needsMac(n: u8) -> Out<bool> {
+    flag(needMac, n)
+}
+
+pub fn builtInIntegrity(n: u8) -> Out<bool> {
+    flag(builtIn, n)
 }
 
 /// a name's number in its kind

@@ -128,26 +128,21 @@ pub fn compressionList(t: &Tables) -> Vec<Name<'static>> {
 }
 
 /// crates/preferred/specs/Defaults
-pub fn defaultList(k: Kind) -> Vec<u8> {
-    match k {
-        Kind::Kex => (0..13).collect(),
-        Kind::Key => (0..7).collect(),
-        Kind::Certificate => vec![],
-        Kind::Cipher => vec![10, 6, 4, 3, 2],
-        Kind::Mac => vec![1, 2, 3, 4],
-        Kind::Compression => vec![0],
-    }
-}
+pub const DEFAULT_KEX: &[u8] = &[0, 1, 2, 3, 4, 5, 6, 7, 8, 9, 10, 11, 12];
+pub const DEFAULT_KEY: &[u8] = &[0, 1, 2, 3, 4, 5, 6];
+pub const DEFAULT_CIPHER: &[u8] = &[10, 6, 4, 3, 2];
+pub const DEFAULT_MAC: &[u8] = &[1, 2, 3, 4];
+pub const DEFAULT_COMPRESSION: &[u8] = &[0];
 
 pub fn defaults(side: Side, key_kinds: &[u8], key_ids: &[u32], cert_kinds: &[u8], cert_ids: &[u32]) -> Tables {
     Tables {
         side,
-        kex: defaultList(Kind::Kex),
-        key: defaultList(Kind::Key),
-        certificate: defaultList(Kind::Certificate),
-        cipher: defaultList(Kind::Cipher),
-        mac: defaultList(Kind::Mac),
-        compression: defaultList(Kind::Compression),
+        kex: DEFAULT_KEX.to_vec(),
+        key: DEFAULT_KEY.to_vec(),
+        certificate: vec![],
+        cipher: DEFAULT_CIPHER.to_vec(),
+        mac: DEFAULT_MAC.to_vec(),
+        compression: DEFAULT_COMPRESSION.to_vec(),
         key_kinds: key_kinds.to_vec(),
         key_ids: key_ids.to_vec(),
         cert_kinds: cert_kinds.to_vec(),

@@ -4,7 +4,7 @@ use cases::beyond::Beyond;
 use cases::named::Named;
 use cases::{Answer, Case};
 use model::wire::Place;
-use model::{channels as mc, door, framing, negotiation, put, wire};
+use model::{channels as mc, door, framing, names, negotiation, put, wire};
 use plain::{ChannelType, Counters, Opening, Out, Read, Tcp};
 
 fn out<T>(answer: model::answer::Out<T>) -> Out<T> {
@@ -76,11 +76,11 @@ fn lent(room: usize, what: model::answer::Out<Vec<u8>>) -> Out<Vec<u8>> {
 
 pub fn named(named: &Named) -> Answer {
     Answer::Bytes(match named {
-        Named::Spelling { kind, number, room } => lent(*room, door::spelling(*kind, *number).map(|s| s.to_vec())),
-        Named::Lookup { kind, name } => out(door::lookup(*kind, name)).map(|number| number.into_iter().collect()),
-        Named::NeedsMac { cipher } => out(door::needsMac(*cipher)).map(|flag| vec![flag as u8]),
-        Named::BuiltInIntegrity { cipher } => out(door::builtInIntegrity(*cipher)).map(|flag| vec![flag as u8]),
-        Named::DefaultList { kind, room } => lent(*room, door::defaults(*kind)),
+        Named::Spelling { kind, number, room } => lent(*room, door::nameOf(*kind, *number)),
+        Named::Lookup { kind, name } => out(door::namedOf(*kind, name)).map(|number| number.into_iter().collect()),
+        Named::NeedsMac { cipher } => out(names::needsMac(*cipher)).map(|flag| vec![flag as u8]),
+        Named::BuiltInIntegrity { cipher } => out(names::builtInIntegrity(*cipher)).map(|flag| vec![flag as u8]),
+        Named::DefaultList { kind, room } => lent(*room, door::defaultList(*kind)),
     })
 }
 

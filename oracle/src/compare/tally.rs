@@ -1,10 +1,9 @@
 //! How often each answer came up, and where two differ.
 
+use crate::counts::{Counts, Wanted, sort};
 use crate::question::{Judge, Question, Voice};
 use cases::lines;
 use std::collections::BTreeMap;
-
-type Counts = BTreeMap<&'static str, BTreeMap<String, u64>>;
 
 /// the function, the judge's answer, who says otherwise, and what
 type Difference = (&'static str, String, &'static str, String);
@@ -30,9 +29,9 @@ impl Tally {
             Judge::Oracle => &mut self.oracle,
             Judge::Model => &mut self.model,
         };
-        *counts.entry(question.function()).or_default().entry(answer.sort()).or_default() += 1;
+        counts.count(question.function(), &answer);
         for voice in voices.iter().filter(|v| v.answer != answer) {
-            self.disagree(question, (question.function(), answer.sort(), voice.who, voice.answer.sort()));
+            self.disagree(question, (question.function(), sort(&answer), voice.who, sort(&voice.answer)));
         }
         if cfg!(library) {
             question.beside(&answer).iter().for_each(|q| self.ask(q));
@@ -40,9 +39,9 @@ impl Tally {
     }
 
     pub fn ask_all(&mut self, what: &str, questions: impl Iterator<Item = Question>) {
-        let before = (total(&self.oracle), total(&self.model));
+        let before = (self.oracle.total(), self.model.total());
         questions.for_each(|q| self.ask(&q));
-        let (oracle, model) = (total(&self.oracle) - before.0, total(&self.model) - before.1);
+        let (oracle, model) = (self.oracle.total() - before.0, self.model.total() - before.1);
         println!("{oracle:>9} {model:>9}  {what}");
     }
 
@@ -66,13 +65,14 @@ impl Tally {
     /// Prints the counts and the disagreements; whether there is none and every number wanted came up.
     pub fn report(&self) -> bool {
         println!("How often each answer came up, compared with the oracle:");
-        print(&self.oracle);
-        let mut whole = wanted(&self.oracle, ORACLE);
+        self.oracle.print();
+        let mut whole = self.oracle.hold(ORACLE);
         if cfg!(library) {
             println!("How often each answer came up where the Rust has none, compared with the model alone:");
-            print(&self.model);
-            whole &= wanted(&self.model, MODEL);
-            println!("Number 1 to 14: {}", self.numbers().join(", "));
+            self.model.print();
+            whole &= self.model.hold(MODEL);
+            let times = |n: u8| format!("{n}: {}", self.oracle.of(n) + self.model.of(n));
+            println!("Numbers 1 to 14: {}", (1..=14).map(times).collect::<Vec<_>>().join(", "));
         }
         let mut differ = 0;
         for ((function, answer, who, says), (count, question)) in &self.disagreements {
@@ -82,32 +82,12 @@ impl Tally {
         }
         println!(
             "{} cases compared with the oracle, {} with the model alone, {differ} disagreements",
-            total(&self.oracle),
-            total(&self.model)
+            self.oracle.total(),
+            self.model.total()
         );
         whole && differ == 0
     }
-
-    fn numbers(&self) -> Vec<String> {
-        let times = |counts: &Counts, n: &String| counts.values().filter_map(|m| m.get(n)).sum::<u64>();
-        (1..=14u8).map(|n| n.to_string()).map(|n| format!("{n}: {}", times(&self.oracle, &n) + times(&self.model, &n))).collect()
-    }
 }
-
-fn total(counts: &Counts) -> u64 {
-    counts.values().flat_map(|m| m.values()).sum()
-}
-
-fn print(counts: &Counts) {
-    for (function, answers) in counts {
-        let mut each: Vec<(&String, &u64)> = answers.iter().collect();
-        each.sort_by_key(|(answer, _)| (answer.len(), answer.to_string()));
-        let each: Vec<String> = each.iter().map(|(answer, n)| format!("{answer}: {n}")).collect();
-        println!("  {function}: {}", each.join(", "));
-    }
-}
-
-type Wanted = &'static [(&'static str, &'static [u8])];
 
 /// the numbers that the Rust can give, by function
 const ORACLE: Wanted = cases::NUMBERS;
@@ -129,19 +109,6 @@ const MODEL: Wanted = &[
     ("default_list", &[8, 9]),
 ];
 
-fn wanted(counts: &Counts, wanted: Wanted) -> bool {
-    let mut whole = true;
-    for (function, numbers) in wanted {
-        for number in *numbers {
-            if !counts.get(function).is_some_and(|m| m.contains_key(&number.to_string())) {
-                println!("  {function} never gave {number}");
-                whole = false;
-            }
-        }
-    }
-    whole
-}
-
 fn show(question: &Question) {
     let (judge, answer, voices) = question.asked();
     println!("  {}", question.line());
@@ -158,8 +125,8 @@ fn show(question: &Question) {
 fn smallest(question: &Question, difference: &Difference) -> Question {
     let same = |q: &Question| {
         let (_, answer, voices) = q.asked();
-        answer.sort() == difference.1
-            && voices.iter().any(|v| v.who == difference.2 && v.answer != answer && v.answer.sort() == difference.3)
+        sort(&answer) == difference.1
+            && voices.iter().any(|v| v.who == difference.2 && v.answer != answer && sort(&v.answer) == difference.3)
     };
     let mut best = question.clone();
     'again: loop {
