@@ -34,7 +34,7 @@ impl Goals {
     pub fn print(&self) {
         println!("\n### Goals\n\n| goal | worst | rows that meet it | |\n|---|---|---|---|");
         for Goal { name, met, rows, worst } in &self.0 {
-            println!("| {name} | {worst:.2} | {met} of {rows} | {} |", verdict(met == rows));
+            println!("| {name} | {worst:.3} | {met} of {rows} | {} |", verdict(met == rows));
         }
     }
 }

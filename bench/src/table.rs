@@ -40,7 +40,7 @@ impl Table {
         match self.times.as_ref().map(|times| times.ratio(group.name, case, other.who)) {
             None => String::new(),
             Some(None) => " – |".to_string(),
-            Some(Some(ratio)) => format!(" {ratio:.2} |"),
+            Some(Some(ratio)) => format!(" {ratio:.3} |"),
         }
     }
 
@@ -62,7 +62,7 @@ impl Table {
 
     fn row(&mut self, group: &Group, case: &Case, other: &Other, taken_off: bool) {
         let (ours, theirs) = (self.count(group, case, "ours"), self.count(group, case, other.who));
-        let ratio = if taken_off { "–".to_string() } else { format!("{:.2}", ours / theirs) };
+        let ratio = if taken_off { "–".to_string() } else { format!("{:.3}", ours / theirs) };
         let (time, goal) = (self.time(group, case, other), self.goal(group, case, other));
         println!("| {} | {} | {} | {} | {ratio} |{time}{goal}", case.name, number(ours), other.who, number(theirs));
     }
