@@ -120,10 +120,11 @@ fn written(answer: &Answer) -> Option<usize> {
     }
 }
 
+/// The bytes without a part, ever smaller ones; of long bytes only so many, since each is a copy.
 fn cuts(bytes: &[u8]) -> Vec<Vec<u8>> {
     let mut all = Vec::new();
     let mut n = bytes.len();
-    while n > 0 {
+    while n > 0 && bytes.len() / n * bytes.len() < 16_000_000 {
         for at in (0..bytes.len()).step_by(n) {
             all.push([&bytes[..at], bytes.get(at + n..).unwrap_or(&[])].concat());
         }

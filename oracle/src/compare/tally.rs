@@ -121,6 +121,9 @@ fn show(question: &Question) {
     }
 }
 
+/// The most bytes that a search for the smallest question puts again, in all.
+const SOUGHT: usize = 8_000_000;
+
 /// the same difference on as small a question as can be found by taking away
 fn smallest(question: &Question, difference: &Difference) -> Question {
     let same = |q: &Question| {
@@ -129,13 +132,18 @@ fn smallest(question: &Question, difference: &Difference) -> Question {
             && voices.iter().any(|v| v.who == difference.2 && v.answer != answer && sort(&v.answer) == difference.3)
     };
     let mut best = question.clone();
-    'again: loop {
+    let mut sought = 0;
+    'again: while sought < SOUGHT {
         for next in best.smaller() {
-            if next.size() < best.size() && same(&next) {
-                best = next;
-                continue 'again;
+            if next.size() < best.size() && sought < SOUGHT {
+                sought += next.size() + 1;
+                if same(&next) {
+                    best = next;
+                    continue 'again;
+                }
             }
         }
-        return best;
+        break;
     }
+    best
 }
