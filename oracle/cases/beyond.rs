@@ -48,9 +48,9 @@ impl Beyond {
             Places(case) => format!("places of {}", lines::case(case)),
             Writing { case, room } => format!("{} out {room}", lines::case(case)),
             Cookie { tables, cookie, room } => {
-                format!("write_kex {} {} out {room}", lines::tables(tables), lines::hex(cookie))
+                format!("write_kex {} {} out {room}", lines::tables(tables), lines::quoted(cookie))
             }
-            Show { bytes, start, len } => format!("show {} {start} {len}", lines::hex(bytes)),
+            Show { bytes, start, len } => format!("show {} {start} {len}", lines::quoted(bytes)),
         }
     }
 }

@@ -33,7 +33,7 @@ impl Named {
     pub fn line(&self) -> String {
         let asked = match self {
             Spelling { kind, number, room } => format!("{kind} {number} out {room}"),
-            Lookup { kind, name } => format!("{kind} {}", lines::hex(name)),
+            Lookup { kind, name } => format!("{kind} {}", lines::quoted(name)),
             NeedsMac { cipher } | BuiltInIntegrity { cipher } => cipher.to_string(),
             DefaultList { kind, room } => format!("{kind} out {room}"),
         };
