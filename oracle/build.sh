@@ -11,7 +11,7 @@ here=$(cd "$(dirname "$0")" && pwd)
 build_for "${ORACLE_FOR:-host}"
 text=${1:-$here/../../shared/docs/src}
 if [ ! -f "$text/src/negotiation.rs" ]; then
-    echo "oracle: no russh 0.65.0 text in '$text' (src/negotiation.rs is not there): give its folder as the first argument" >&2
+    echo "oracle: no russh 0.65.0 text in '$text' (no src/negotiation.rs there): give its folder as the first argument" >&2
     exit 2
 fi
 text=$(cd "$text" && pwd)
@@ -58,7 +58,8 @@ $rustc --edition 2024 -O --crate-type rlib --crate-name russh --cfg 'feature="ri
 lib cases "$here/cases/lib.rs"
 lib model "$here/model/lib.rs"
 lib ours "$here/src/ours/lib.rs"
-$rustc --edition 2024 -O --crate-type bin --crate-name record -L "$target/lib" -o "$target/record" "$here/src/record.rs" $(externs)
+$rustc --edition 2024 -O --crate-type bin --crate-name record -L "$target/lib" -o "$target/record" \
+    "$here/src/record.rs" $(externs)
 library=''
 if [ "${ORACLE_FOR:-host}" = x86_64 ] && [ -n "${LIBDOOR:-}" ]; then library="--cfg library -C link-arg=$LIBDOOR"; fi
 $rustc --edition 2024 -O ${ORACLE_LTO:+-C lto=fat -C codegen-units=1} --crate-type bin --crate-name compare $library \

@@ -1,6 +1,6 @@
-//! The rows of docs/DIFFERENCES.md, each with as small an input as shows it, and the answer that the row says. Rows of C and
-//! R hold for the Rust too, so the oracle answers; rows of X are ours alone, and `door::differences` runs the Rust's side.
-//! Not here: C8, R9 and D1, which no input of this size shows, and C9 and X3, which are about a state that we do not have.
+//! The rows of docs/DIFFERENCES.md, each with as small an input as shows it, and the answer that the row says. Rows of C
+//! and R hold for the Rust too, so the oracle answers; rows of X are ours alone, and `door::differences` runs the Rust's
+//! side. Not here: C8, R9 and D1, which no input of this size shows, and C9 and X3, about a state that we do not have.
 
 use crate::question::Question;
 use cases::beyond::Beyond;
@@ -10,6 +10,11 @@ use cases::{Case, lines};
 use plain::{Counters, Side, Tables};
 
 const ZERO: Counters = Counters { seqn: 0, bytes: 0 };
+
+/// the packet of an empty payload; of one byte, at the end of the byte count; a failure whose text is FF
+const EMPTY: &str = r#"ok "\00\00\00\0c\0b\00\00\00\00\00\00\00\00\00\00\00" 1 0"#;
+const LAST: &str = r#"ok "\00\00\00\0c\0a\00\00\00\00\00\00\00\00\00\00\00" 1 18446744073709551615"#;
+const FAILED: &str = r#"ok "\5c\00\00\00\00\00\00\00\00\00\00\00\01\ff\00\00\00\02en""#;
 
 pub struct Row {
     pub row: &'static str,
@@ -27,7 +32,7 @@ fn beyond(row: &'static str, beyond: Beyond, says: &'static str) -> Row {
 }
 
 fn unknown(row: &'static str, kind: u8, name: &str) -> Row {
-    Row { row, question: Question::Named(Named::Lookup { kind, name: name.into() }), says: "ok -" }
+    Row { row, question: Question::Named(Named::Lookup { kind, name: name.into() }), says: r#"ok """# }
 }
 
 /// a client that prefers the shortest names
@@ -109,22 +114,22 @@ fn departures() -> Vec<Row> {
     let mut nothing = least(Side::Client);
     (nothing.kex, nothing.key, nothing.cipher, nothing.compression) = (vec![], vec![], vec![], vec![]);
     vec![
-        packet("R1", &[0, 0, 0, 1, 0], "ok - 5 5 1 0"),
-        packet("R2, R15", &[0, 0, 0, 0], "ok - 4 4 1 0"),
-        packet("R15", &[0, 0, 0, 1, 1], "ok - 4 5 1 0"),
-        case("R3", Case::FrameWrite { payload: vec![], counters: ZERO }, "ok 0000000c0b0000000000000000000000 1 0"),
+        packet("R1", &[0, 0, 0, 1, 0], r#"ok "" 5 5 1 0"#),
+        packet("R2, R15", &[0, 0, 0, 0], r#"ok "" 4 4 1 0"#),
+        packet("R15", &[0, 0, 0, 1, 1], r#"ok "" 4 5 1 0"#),
+        case("R3", Case::FrameWrite { payload: vec![], counters: ZERO }, EMPTY),
         packet("R4", &[0, 4, 0, 0x21], "need 262181"),
         packet("R16", &[0, 4, 0, 0x1D], "need 262177"),
         first_list("R5", &[b'a'; 65], "no 10"),
-        case("R6", Case::Fail { recipient: 0, reason: 0, text: vec![0xFF] }, "ok 5c000000000000000000000001ff00000002656e"),
+        case("R6", Case::Fail { recipient: 0, reason: 0, text: vec![0xFF] }, FAILED),
         opening("R7", b"", 0, &[], "no 6"),
         kexinit("R8, R12", least(Side::Client), |_| {}, "ok 1 6 1 0 0 0 0 0 0 0"),
         case("R10", Case::ReadKex { tables: least(Side::Client), rekey: false, payload: any }, "ok 1 6 1 0 0 0 0 0 0 0"),
-        case("R11", Case::WriteKex { tables: nothing, cookie: [0; 16] }, "ok 14.00*61"),
+        case("R11", Case::WriteKex { tables: nothing, cookie: [0; 16] }, r#"ok "\14\00*61.""#),
         kexinit("R12", ctr, both, "no 13"),
-        opening("R13", "é".as_bytes(), 1, &[], "ok 0 0 1 unknown c3a9 -"),
-        opening("R17", b"", 1, &[], "ok 0 0 1 unknown - -"),
-        opening("R18", b"x11", 1, &[0, 0, 0, 0, 0, 1, 0, 0], "ok 0 0 1 x11 - 65536"),
+        opening("R13", "é".as_bytes(), 1, &[], r#"ok 0 0 1 unknown "\c3\a9" """#),
+        opening("R17", b"", 1, &[], r#"ok 0 0 1 unknown "" """#),
+        opening("R18", b"x11", 1, &[0, 0, 0, 0, 0, 1, 0, 0], r#"ok 0 0 1 x11 "" 65536"#),
     ]
 }
 
@@ -141,8 +146,8 @@ fn added() -> Vec<Row> {
     (kinds.cert_kinds, kinds.cert_ids) = (vec![0], vec![1]);
     let end = Counters { seqn: 0, bytes: u64::MAX };
     vec![
-        beyond("X1", sealed(1, end, 16), "ok 0000000c0a0000000000000000000000 1 18446744073709551615"),
-        case("X2", Case::FrameWrite { payload: vec![], counters: ZERO }, "ok 0000000c0b0000000000000000000000 1 0"),
+        beyond("X1", sealed(1, end, 16), LAST),
+        case("X2", Case::FrameWrite { payload: vec![], counters: ZERO }, EMPTY),
         packet("X4", &[0, 0, 0, 1, 2], "no 7"),
         beyond("X5, R14", read(least(Side::Client), 262177), "no 1"),
         beyond("X5, R14", Beyond::Reading(Case::Open { body: vec![0; 262176] }), "no 1"),

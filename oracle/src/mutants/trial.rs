@@ -132,7 +132,7 @@ fn disagreement(run: &Output) -> String {
     format!(" | {function} | {}", said.join("; "))
 }
 
-/// The program's own output is held to what is recorded, compiled at -O0 and at -O3; the run with the compiler's assumptions
+/// What the program writes is held to its file stdout, compiled at -O0 and at -O3; the run with the compiler's assumptions
 /// checked may take longer than `rt try` waits.
 fn replayed(work: &Path) -> Seen {
     apart(work);
