@@ -2,7 +2,7 @@
  *
  * The functions of crates/door, for C and whatever speaks C's calling convention. The static library is made by
  *
- *     rt staticlib door          -> target/staticlib/libdoor.a      (x86-64; needs memset and memcpy, nothing else)
+ *     rt staticlib door          -> target/staticlib/libdoor.a      (x86-64; wants no more than memcpy and memset)
  *
  * Slices are a pointer and a count of elements; an empty one may be null. Nothing is kept, allocated or copied: an answer
  * is a struct by value, and a text in it is a place in the bytes that the caller lent. Any bytes, numbers, tables and
@@ -113,7 +113,7 @@ harupesat_sealed harupesat_frame_write(const uint8_t *payload, size_t payload_le
  *
  * A side's tables: six preference lists of numbers, up to 16 each, best first; of a server up to 8 key rows and up to 8
  * certificate rows, two columns each (kinds, identities), of one length. Equal identity stands for equal public key data.
- * A client lends no rows. */
+ * A client lends no rows. A server's certificate list is not used, and is judged for 9 all the same. */
 
 typedef struct {
     uint8_t what;

@@ -1,16 +1,20 @@
 #!/bin/sh
 # Builds the oracle: 16 files of russh 0.65.0, unchanged, with stand-ins for what is absent.
 #   oracle/build.sh [FOLDER OF THE RUST'S TEXT]      (../shared/docs/src beside the repository, where none is given)
+# ORACLE_FOR: host (where none is given), or x86_64 for what links our static library: machine.sh says by what.
+# LIBDOOR: our static library, if it is to be compared too (x86_64 alone).
+# ORACLE_LTO: not empty, the comparison is optimised across crates.
 # Needs rustc alone: no registry, no network. What is built stands in oracle/target/.
 set -eu
 here=$(cd "$(dirname "$0")" && pwd)
+. "$here/machine.sh"
+build_for "${ORACLE_FOR:-host}"
 text=${1:-$here/../../shared/docs/src}
 if [ ! -f "$text/src/negotiation.rs" ]; then
-    echo "oracle: no russh 0.65.0 text in '$text' (src/negotiation.rs is not there): give its folder as the first argument" >&2
+    echo "oracle: no russh 0.65.0 text in '$text' (no src/negotiation.rs there): give its folder as the first argument" >&2
     exit 2
 fi
 text=$(cd "$text" && pwd)
-target=${ORACLE_TARGET:-$here/target}
 tree=$target/russh/src
 
 # The 16 files, by name, as SHA256SUMS lists them; the copies are checked, so what is compiled is what was checked.
@@ -28,8 +32,8 @@ done < "$here/SHA256SUMS"
 }
 cp -r "$here/src/door" "$tree/door"
 
-lib() { # NAME FILE TYPE
-    rustc --edition 2024 -O --crate-type "$3" --crate-name "$1" -L "$target/lib" --out-dir "$target/lib" "$2" \
+lib() { # NAME FILE
+    $rustc --edition 2024 -O --crate-type rlib --crate-name "$1" -L "$target/lib" --out-dir "$target/lib" "$2" \
         --cap-lints allow $(externs)
 }
 externs() {
@@ -44,15 +48,20 @@ rm -f "$target"/lib/*
 # in the order in which they use each other
 for name in signature ssh_encoding ssh_key rand_core rand log delegate byteorder bytes tokio generic_array digest hmac \
     sha1 sha2 subtle cipher aes ctr cbc ring p256 p384 p521; do
-    lib $name "$here/standins/$name.rs" rlib
+    lib $name "$here/standins/$name.rs"
 done
-lib enum_dispatch "$here/standins/enum_dispatch.rs" proc-macro
-lib plain "$here/src/plain.rs" rlib
-rustc --edition 2024 -O --crate-type rlib --crate-name russh --cfg 'feature="ring"' -L "$target/lib" \
+$host_rustc --edition 2024 -O --crate-type proc-macro --crate-name enum_dispatch --out-dir "$target/lib" \
+    "$here/standins/enum_dispatch.rs"
+lib plain "$here/src/plain.rs"
+$rustc --edition 2024 -O --crate-type rlib --crate-name russh --cfg 'feature="ring"' -L "$target/lib" \
     --out-dir "$target/lib" "$tree/lib.rs" --cap-lints allow $(externs)
-lib cases "$here/cases/lib.rs" rlib
-lib model "$here/model/lib.rs" rlib
-for name in compare record mutants; do
-    rustc --edition 2024 -O --crate-type bin --crate-name $name -L "$target/lib" -o "$target/$name" "$here/src/$name.rs" $(externs)
-done
+lib cases "$here/cases/lib.rs"
+lib model "$here/model/lib.rs"
+lib ours "$here/src/ours/lib.rs"
+$rustc --edition 2024 -O --crate-type bin --crate-name record -L "$target/lib" -o "$target/record" \
+    "$here/src/record.rs" $(externs)
+library=''
+if [ "${ORACLE_FOR:-host}" = x86_64 ] && [ -n "${LIBDOOR:-}" ]; then library="--cfg library -C link-arg=$LIBDOOR"; fi
+$rustc --edition 2024 -O ${ORACLE_LTO:+-C lto=fat -C codegen-units=1} --crate-type bin --crate-name compare $library \
+    -L "$target/lib" -o "$target/compare" "$here/src/compare/main.rs" $(externs)
 echo "oracle: 16 files as in SHA256SUMS, built"

@@ -1,8 +1,29 @@
 #!/bin/sh
-# What the comparison is worth: each wrong definition of mutants.txt must be seen.
-#   oracle/mutants.sh [N]      N random cases of each family (20,000 where none is given)
+# What the comparison is worth: each wrong thing of the lists in mutants/ must be seen.
+#   oracle/mutants.sh                    the three below, one after the other
+#   oracle/mutants.sh text [N]           the Rust's text changed, against library and model, by the short run
+#   oracle/mutants.sh code               our code changed, unproved, over the recorded answers, by 'rt try replay'
+#   oracle/mutants.sh definitions [N]    the model changed, against the oracle
+# LIBDOOR, RUSSH_TEXT, CAPTURES: as for compare.sh.
 set -eu
 here=$(cd "$(dirname "$0")" && pwd)
-target=${ORACLE_TARGET:-$here/target}
-"$here/build.sh" ${RUSSH_TEXT:+"$RUSSH_TEXT"}
-exec "$target/mutants" "$here" "$target" "${1:-20000}" "${CAPTURES:-$here/../../shared/captures}"
+. "$here/machine.sh"
+if [ $# -eq 0 ]; then
+    for kind in text code definitions; do "$0" $kind; done
+    exit
+fi
+kind=$1
+case $kind in
+    text) ORACLE_FOR=x86_64 n=50000 ;;
+    code) ORACLE_FOR=host n=0 ;;
+    definitions) ORACLE_FOR=host n=20000 ;;
+    *) echo "oracle: mutants of text, code or definitions" >&2; exit 2 ;;
+esac
+export ORACLE_FOR
+build_for $ORACLE_FOR
+if [ $kind = text ]; then need_library; else unset LIBDOOR; fi
+[ $kind = code ] || "$here/build.sh" ${RUSSH_TEXT:+"$RUSSH_TEXT"}
+mkdir -p "$target"
+$host_rustc --edition 2024 -O --crate-name mutants -o "$target/mutants" "$here/src/mutants/main.rs"
+export RUSTC="$rustc" RUNNER="$runner"
+exec "$target/mutants" $kind "$here" "$target" "${2:-$n}" "${CAPTURES:-$here/../../shared/captures}"

@@ -84,7 +84,7 @@ pub fn tables(r: &mut Rng, side: Side) -> Tables {
     }
 }
 
-fn cookie(r: &mut Rng) -> [u8; 16] {
+pub fn cookie(r: &mut Rng) -> [u8; 16] {
     r.bytes(16).try_into().expect("16 bytes")
 }
 
@@ -92,11 +92,16 @@ fn read(r: &mut Rng, tables: &Tables, payload: Vec<u8>) -> Case {
     Case::ReadKex { tables: tables.clone(), rekey: r.once_in(8), payload }
 }
 
-/// What two sides write, and what each reads of the other; and of a damaged copy.
+/// What two sides of the Rust write, and what each reads of the other; and of a damaged copy.
 pub fn pair(r: &mut Rng) -> Vec<Case> {
+    pair_by(r, &door::write_kex)
+}
+
+/// The same, written by anyone.
+pub fn pair_by(r: &mut Rng, write: &dyn Fn(&Tables, &[u8; 16]) -> Vec<u8>) -> Vec<Case> {
     let (client, server) = (tables(r, Side::Client), tables(r, Side::Server));
     let (a, b) = (cookie(r), cookie(r));
-    let (from_client, from_server) = (door::write_kex(&client, &a), door::write_kex(&server, &b));
+    let (from_client, from_server) = (write(&client, &a), write(&server, &b));
     let (spoilt, spoilt2) = (r.damaged(&from_client), r.damaged(&from_server));
     vec![
         read(r, &client, from_server),

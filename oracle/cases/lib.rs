@@ -1,15 +1,18 @@
 //! Cases: what is asked of the oracle and of the model, made with fixed seeds.
 
+pub mod beyond;
 pub mod channels;
 pub mod exhaustive;
 pub mod frames;
 pub mod kex;
 pub mod lines;
 pub mod lists;
+pub mod named;
 pub mod rng;
+pub mod tables;
 pub mod tried;
 
-pub use tried::{captured, tried};
+pub use tried::{captured, document, tried};
 
 use plain::{Confirmation, Counters, Names, Opening, Out, Read, Tables};
 use russh::door;
@@ -101,7 +104,7 @@ impl Case {
     }
 }
 
-fn entries(t: &Tables) -> usize {
+pub fn entries(t: &Tables) -> usize {
     [&t.kex, &t.key, &t.certificate, &t.cipher, &t.mac, &t.compression, &t.key_kinds, &t.cert_kinds]
         .iter()
         .map(|l| l.len())

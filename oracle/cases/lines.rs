@@ -16,7 +16,7 @@ pub fn quoted(bytes: &[u8]) -> String {
     text + "\""
 }
 
-fn tables(t: &Tables) -> String {
+pub fn tables(t: &Tables) -> String {
     let ids = |ids: &[u32]| quoted(&ids.iter().flat_map(|i| i.to_be_bytes()).collect::<Vec<u8>>());
     format!(
         "{} {} {} {} {} {} {} {} {} {} {}",

@@ -1,20 +1,19 @@
 //! crates/choice/specs/Choice
 
+use crate::wire::Name;
 use plain::Side;
 
-type Name = Vec<u8>;
-
-pub fn listed(name: &Name, list: &[Name]) -> bool {
-    list.iter().any(|m| m == name)
+pub fn listed(name: Name, list: &[Name]) -> bool {
+    list.contains(&name)
 }
 
 /// "the client's first name that the server lists"
-pub fn firstShared(client: &[Name], server: &[Name]) -> Option<Name> {
-    client.iter().find(|name| listed(name, server)).cloned()
+pub fn firstShared<'a>(client: &[Name<'a>], server: &[Name]) -> Option<Name<'a>> {
+    client.iter().copied().find(|name| listed(name, server))
 }
 
 /// at either end, over the own list and the peer's
-pub fn chosen(side: Side, own: &[Name], peer: &[Name]) -> Option<Name> {
+pub fn chosen<'a>(side: Side, own: &[Name<'a>], peer: &[Name<'a>]) -> Option<Name<'a>> {
     match side {
         Side::Client => firstShared(own, peer),
         Side::Server => firstShared(peer, own),

@@ -1,4 +1,7 @@
-//! crates/names/specs: Tables, Lookup
+//! crates/names/specs: Tables, Spelled, Lookup
+
+use crate::answer::{Out, guard};
+use std::sync::LazyLock;
 
 #[derive(Debug, Clone, Copy, PartialEq, Eq)]
 pub enum Kind {
@@ -55,28 +58,24 @@ const MAC: &[&str] =
 
 const COMPRESSION: &[&str] = &["none"];
 
+/// "The certificate name is the key name followed by -cert-v01@openssh.com."
+static CERTIFICATE: LazyLock<Vec<&'static str>> =
+    LazyLock::new(|| KEY.iter().map(|n| &*format!("{n}-cert-v01@openssh.com").leak()).collect());
+
 /// the names of a kind
-pub fn namesOf(k: Kind) -> Vec<Vec<u8>> {
-    let bytes = |table: &[&str], suffix: &str| table.iter().map(|n| format!("{n}{suffix}").into_bytes()).collect();
+pub fn namesOf(k: Kind) -> &'static [&'static str] {
     match k {
-        Kind::Kex => bytes(KEX, ""),
-        Kind::Key => bytes(KEY, ""),
-        // "The certificate name is the key name followed by -cert-v01@openssh.com."
-        Kind::Certificate => bytes(KEY, "-cert-v01@openssh.com"),
-        Kind::Cipher => bytes(CIPHER, ""),
-        Kind::Mac => bytes(MAC, ""),
-        Kind::Compression => bytes(COMPRESSION, ""),
+        Kind::Kex => KEX,
+        Kind::Key => KEY,
+        Kind::Certificate => &CERTIFICATE,
+        Kind::Cipher => CIPHER,
+        Kind::Mac => MAC,
+        Kind::Compression => COMPRESSION,
     }
 }
 
 pub fn count(k: Kind) -> usize {
-    match k {
-        Kind::Kex => KEX.len(),
-        Kind::Key | Kind::Certificate => KEY.len(),
-        Kind::Cipher => CIPHER.len(),
-        Kind::Mac => MAC.len(),
-        Kind::Compression => COMPRESSION.len(),
-    }
+    namesOf(k).len()
 }
 
 /// "The ctr and cbc names need a MAC"
@@ -89,12 +88,25 @@ pub fn builtIn(n: u8) -> bool {
     CIPHER[n as usize].contains("gcm") || CIPHER[n as usize].contains("chacha20")
 }
 
+fn flag(test: fn(u8) -> bool, n: u8) -> Out<bool> {
+    guard(9, (n as usize) < CIPHER.len())?;
+    Ok(test(n))
+}
+
+pub fn needsMac(n: u8) -> Out<bool> {
+    flag(needMac, n)
+}
+
+pub fn builtInIntegrity(n: u8) -> Out<bool> {
+    flag(builtIn, n)
+}
+
 /// a name's number in its kind
 pub fn numberOf(k: Kind, name: &[u8]) -> Option<u8> {
-    namesOf(k).iter().position(|m| m == name).map(|n| n as u8)
+    namesOf(k).iter().position(|m| m.as_bytes() == name).map(|n| n as u8)
 }
 
 /// the name of a number of a kind (a valid one)
-pub fn spelled(k: Kind, n: u8) -> Vec<u8> {
-    namesOf(k)[n as usize].clone()
+pub fn spelled(k: Kind, n: u8) -> &'static [u8] {
+    namesOf(k)[n as usize].as_bytes()
 }

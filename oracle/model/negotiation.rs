@@ -5,10 +5,8 @@ use crate::choice::{bothFirst, chosen, listed};
 use crate::names::{Kind, needMac, numberOf, spelled};
 use crate::preferred::{cipherList, compressionList, keyList, kexChosen, kexWritten, macList, strictName, valid};
 use crate::put;
-use crate::wire::{At, byte, cut, end, here, join, nameList, string, word};
+use crate::wire::{At, Name, byte, cut, end, here, join, nameList, string, word};
 use plain::{Names, Tables};
-
-type Name = Vec<u8>;
 
 pub const MOST_PAYLOAD: usize = 262176;
 
@@ -25,32 +23,32 @@ fn settle(n: u8, name: Option<Name>) -> Out<Name> {
     }
 }
 
-fn number(k: Kind, name: &[u8]) -> u8 {
+fn number(k: Kind, name: Name) -> u8 {
     numberOf(k, name).unwrap_or(0)
 }
 
-fn needsMac(cipher: &[u8]) -> bool {
+fn needsMac(cipher: Name) -> bool {
     needMac(number(Kind::Cipher, cipher))
 }
 
-fn settleMac(cipher: &[u8], mac: Option<Name>) -> Out<Name> {
+fn settleMac<'a>(cipher: Name, mac: Option<Name<'a>>) -> Out<Name<'a>> {
     match mac {
         None if needsMac(cipher) => refuse(13),
-        None => Ok(b"none".to_vec()),
+        None => Ok(b"none"),
         Some(mac) if needsMac(cipher) && mac == b"none" => refuse(13),
         Some(mac) => Ok(mac),
     }
 }
 
 fn strict(t: &Tables, rekey: bool, peer: &[Name]) -> bool {
-    t.kex.contains(&strictName(t.side)) && listed(&spelled(Kind::Kex, strictName(t.side.other())), peer) || rekey
+    t.kex.contains(&strictName(t.side)) && listed(spelled(Kind::Kex, strictName(t.side.other())), peer) || rekey
 }
 
-fn isCertificate(name: &[u8]) -> bool {
+fn isCertificate(name: Name) -> bool {
     numberOf(Kind::Certificate, name).is_some()
 }
 
-fn keyNumber(name: &[u8]) -> u8 {
+fn keyNumber(name: Name) -> u8 {
     number(if isCertificate(name) { Kind::Certificate } else { Kind::Key }, name)
 }
 
@@ -66,9 +64,9 @@ pub fn readKex(t: &Tables, rekey: bool, p: &[u8]) -> Out<Names> {
     let cipher = settle(12, chosen(t.side, &cipherList(t), &ciphers))?;
     let (_, c4) = string(c3)?;
     let (macs, c5) = offer(c4)?;
-    let clientMac = settleMac(&cipher, chosen(t.side, &macList(t), &macs))?;
+    let clientMac = settleMac(cipher, chosen(t.side, &macList(t), &macs))?;
     let (macs2, c6) = offer(c5)?;
-    let serverMac = settleMac(&cipher, chosen(t.side, &macList(t), &macs2))?;
+    let serverMac = settleMac(cipher, chosen(t.side, &macList(t), &macs2))?;
     let (compressions, c7) = offer(c6)?;
     let clientCompression = settle(14, chosen(t.side, &compressionList(t), &compressions))?;
     let (compressions2, c8) = offer(c7)?;
@@ -79,14 +77,14 @@ pub fn readKex(t: &Tables, rekey: bool, p: &[u8]) -> Out<Names> {
     let (_, c12) = word(c11)?;
     end(c12)?;
     Ok(Names {
-        kex: number(Kind::Kex, &kex),
-        key: keyNumber(&key),
-        cipher: number(Kind::Cipher, &cipher),
-        client_mac: number(Kind::Mac, &clientMac),
-        server_mac: number(Kind::Mac, &serverMac),
-        client_compression: number(Kind::Compression, &clientCompression),
-        server_compression: number(Kind::Compression, &serverCompression),
-        host_key_is_certificate: isCertificate(&key),
+        kex: number(Kind::Kex, kex),
+        key: keyNumber(key),
+        cipher: number(Kind::Cipher, cipher),
+        client_mac: number(Kind::Mac, clientMac),
+        server_mac: number(Kind::Mac, serverMac),
+        client_compression: number(Kind::Compression, clientCompression),
+        server_compression: number(Kind::Compression, serverCompression),
+        host_key_is_certificate: isCertificate(key),
         ignore_guessed: follows != 0 && !(bothFirst(&kexChosen(t), &kexes) && bothFirst(&keyList(t), &keys)),
         strict_kex: strict(t, rekey, &kexes),
     })

@@ -1,9 +1,8 @@
 //! crates/preferred/specs: Tables, Own
 
 use crate::names::{Kind, count, spelled};
+use crate::wire::Name;
 use plain::{Side, Tables};
-
-type Name = Vec<u8>;
 
 const MOST_ENTRIES: usize = 16;
 const MOST_ROWS: usize = 8;
@@ -65,17 +64,17 @@ fn without(dropped: &[u8], ns: &[u8]) -> Vec<u8> {
     ns.iter().copied().filter(|n| !dropped.contains(n)).collect()
 }
 
-fn names(k: Kind, ns: &[u8]) -> Vec<Name> {
+fn names(k: Kind, ns: &[u8]) -> Vec<Name<'static>> {
     ns.iter().map(|&n| spelled(k, n)).collect()
 }
 
 /// "A server's kex list drops ext-info-c and kex-strict-c; a client's drops the -s pair."
-pub fn kexWritten(t: &Tables) -> Vec<Name> {
+pub fn kexWritten(t: &Tables) -> Vec<Name<'static>> {
     names(Kind::Kex, &without(&extensions(t.side.other()), &t.kex))
 }
 
 /// the extension names are removed from the own list, and from that alone (C1)
-pub fn kexChosen(t: &Tables) -> Vec<Name> {
+pub fn kexChosen(t: &Tables) -> Vec<Name<'static>> {
     names(Kind::Kex, &without(&[extensions(Side::Client), extensions(Side::Server)].concat(), &t.kex))
 }
 
@@ -108,7 +107,7 @@ fn certificates(t: &Tables) -> Vec<u8> {
     made
 }
 
-pub fn keyList(t: &Tables) -> Vec<Name> {
+pub fn keyList(t: &Tables) -> Vec<Name<'static>> {
     let (certificate, key) = match t.side {
         Side::Client => (t.certificate.clone(), t.key.clone()),
         Side::Server => (certificates(t), held(&t.key_kinds, &t.key)),
@@ -116,28 +115,34 @@ pub fn keyList(t: &Tables) -> Vec<Name> {
     [names(Kind::Certificate, &certificate), names(Kind::Key, &key)].concat()
 }
 
-pub fn cipherList(t: &Tables) -> Vec<Name> {
+pub fn cipherList(t: &Tables) -> Vec<Name<'static>> {
     names(Kind::Cipher, &t.cipher)
 }
 
-pub fn macList(t: &Tables) -> Vec<Name> {
+pub fn macList(t: &Tables) -> Vec<Name<'static>> {
     names(Kind::Mac, &t.mac)
 }
 
-pub fn compressionList(t: &Tables) -> Vec<Name> {
+pub fn compressionList(t: &Tables) -> Vec<Name<'static>> {
     names(Kind::Compression, &t.compression)
 }
 
 /// crates/preferred/specs/Defaults
+pub const DEFAULT_KEX: &[u8] = &[0, 1, 2, 3, 4, 5, 6, 7, 8, 9, 10, 11, 12];
+pub const DEFAULT_KEY: &[u8] = &[0, 1, 2, 3, 4, 5, 6];
+pub const DEFAULT_CIPHER: &[u8] = &[10, 6, 4, 3, 2];
+pub const DEFAULT_MAC: &[u8] = &[1, 2, 3, 4];
+pub const DEFAULT_COMPRESSION: &[u8] = &[0];
+
 pub fn defaults(side: Side, key_kinds: &[u8], key_ids: &[u32], cert_kinds: &[u8], cert_ids: &[u32]) -> Tables {
     Tables {
         side,
-        kex: (0..13).collect(),
-        key: (0..7).collect(),
+        kex: DEFAULT_KEX.to_vec(),
+        key: DEFAULT_KEY.to_vec(),
         certificate: vec![],
-        cipher: vec![10, 6, 4, 3, 2],
-        mac: vec![1, 2, 3, 4],
-        compression: vec![0],
+        cipher: DEFAULT_CIPHER.to_vec(),
+        mac: DEFAULT_MAC.to_vec(),
+        compression: DEFAULT_COMPRESSION.to_vec(),
         key_kinds: key_kinds.to_vec(),
         key_ids: key_ids.to_vec(),
         cert_kinds: cert_kinds.to_vec(),

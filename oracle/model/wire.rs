@@ -3,6 +3,8 @@
 use crate::answer::{Out, guard};
 use crate::text::{ascii, utf8};
 
+pub type Name<'a> = &'a [u8];
+
 /// How far a reader is in the input, and what is left from there on.
 #[derive(Clone, Copy)]
 pub struct At<'a> {
@@ -63,22 +65,16 @@ pub fn end(c: At) -> Out<()> {
 }
 
 /// The names of a list: cut at each comma; one comma at the very end ends the last name and starts none (C3).
-pub fn cut(s: &[u8]) -> Vec<Vec<u8>> {
-    let mut names: Vec<Vec<u8>> = Vec::new();
-    for &c in s.iter().rev() {
-        match names.last_mut() {
-            _ if c == 44 => names.push(Vec::new()),
-            None => names.push(vec![c]),
-            Some(name) => name.push(c),
-        }
+pub fn cut(s: &[u8]) -> Vec<Name<'_>> {
+    let mut names: Vec<Name> = s.split(|&c| c == 44).collect();
+    if names.last().is_some_and(|last| last.is_empty()) {
+        names.pop();
     }
-    names.reverse();
-    names.iter_mut().for_each(|name| name.reverse());
     names
 }
 
 /// names joined by commas
-pub fn join(names: &[Vec<u8>]) -> Vec<u8> {
+pub fn join(names: &[Name]) -> Vec<u8> {
     names.join(&44)
 }
 
@@ -86,12 +82,12 @@ const MOST_BYTES: usize = 16384;
 const MOST_BEFORE: usize = 1024;
 
 /// a name that may stand in a list: not empty (C2), and US-ASCII (C4)
-fn standing(s: &[u8]) -> bool {
+fn standing(s: Name) -> bool {
     !s.is_empty() && ascii(s)
 }
 
 /// name by name from the left: 3 for a name that may not stand, before the count's 2 (C7)
-fn judged(names: &[Vec<u8>]) -> Out<()> {
+fn judged(names: &[Name]) -> Out<()> {
     for (n, name) in names.iter().enumerate() {
         guard(3, standing(name))?;
         guard(2, n <= MOST_BEFORE)?;
@@ -114,6 +110,6 @@ pub fn nameList(c: At) -> Out<(Run, At)> {
 
 /// "a string's place lies outside the slice lent" is 2
 pub fn shown(s: &[u8], p: Place) -> Out<&[u8]> {
-    guard(2, p.start + p.len <= s.len())?;
+    guard(2, p.start as u128 + p.len as u128 <= s.len() as u128)?;
     Ok(&s[p.start..p.start + p.len])
 }

@@ -21,29 +21,10 @@ use Rattle.wire.specs.Shown.{part}
 use Rattle.wire.specs.Answers.{nextOf}
 use Rattle.wire.proofs.CutLaws.{walk-end}
 use Rattle.wire.proofs.JudgeLaws.{names-left, name-inside, name-less}
-use Rattle.names.specs.declared.Row.{Row}
-use Rattle.names.specs.declared.Row.the-variants.{At, Nowhere}
-use Rattle.names.specs.Spelled.{rowName}
-use Rattle.names.specs.Lookup.{rowFrom, is, row}
 use Rattle.choice.specs.declared.Side.{Side}
 use Rattle.choice.specs.declared.Side.the-variants.{Client, Server}
 use Rattle.choice.specs.Rows.{chosenRow, offered, rowFor, ownFirst, peerFirst, firstBoth, placeOf, rowAt}
 use Rattle.choice.proofs.PlaceLaws.{row-in, row-out, place-within, first-at, narrow, place-none}
-
--- one row looked up
-module _ (spellings starts lengths name : List ℕ) (at r : ℕ) (e : at ≡ r) (f : Row)
-    (told : row f ≡ rowFrom spellings starts lengths name at (at + 1 - at)) where
-  one-row : row f ≡ pick (is (rowName spellings starts lengths r) name) (some r) none
-  unfolding rowFrom
-  one-row = rw (e, add-sub-cancel-left r 1) at told
-
-  pub spells-yes : (n : ℕ) → f ≡ At n → true ≡ is (rowName spellings starts lengths r) name
-  spells-yes n h = split (is (rowName spellings starts lengths r) name) (λ t. sym t) (λ t. let q = rw (t, h) at one-row in cc)
-
-  pub spells-no : f ≡ Nowhere → false ≡ is (rowName spellings starts lengths r) name
-  spells-no h = split (is (rowName spellings starts lengths r) name) (λ t. let q = rw (t, h) at one-row in cc) (λ t. sym t)
-
-pub ruleset spells-laws = (spells-yes, spells-no)
 
 pub ruleset row-laws = (row-in, row-out)
 
@@ -117,6 +98,11 @@ module _ (s : List ℕ) (i : ℕ) (r : NextName) (told : nextOf s r ≡ nextName
         pub own-on : placeOf (offered spells) own names ≡ placeOf (offered spells) (take k own) (cut (drop (c .at) s))
         own-on = rw (inv, one-more p c name e f, narrow, ← at, take-take k best own nearer)
 
+        -- no own row stands before the first
+        pub own-best : (v : Option ℕ) → k ≡ 0 → v ≡ rowAt own k → v ≡ ownFirst spells own names
+        unfolding ownFirst placeOf
+        own-best v z h = rw (h, first-at, own-on, z)
+
 -- both first, at the list's first name
 module _ (s own : List ℕ) (spells : ℕ → List ℕ → Bool) (r : NextName) (told : nextOf s r ≡ nextName (here s 0)) where
   pub both-unlisted : r ≡ NoMore → false ≡ firstBoth spells own (cut s)
@@ -148,7 +134,7 @@ pub ruleset both-laws = (name-inside, both-unlisted, both-unowned, both-firsts)
 
 pub ruleset peer-laws = (name-inside, name-less, peer-none, peer-here, peer-on)
 
-pub ruleset own-laws = (le-refl, name-inside, name-less, own-start, own-count, own-done, own-within, own-on)
+pub ruleset own-laws = (le-refl, name-inside, name-less, own-start, own-count, own-done, own-best, own-within, own-on)
 
 -- by sides
 module _ (spells : ℕ → List ℕ → Bool) (own : List ℕ) (names : List (List ℕ)) (v : Option ℕ) where

@@ -18,8 +18,6 @@ ghost use Rattle.choice.specs.Rows.{
   firstBoth,
   chose,
 };
-use names::Row;
-use names::find;
 use names::wide;
 use wire::answers::Cursor;
 use wire::answers::NextName;
@@ -39,12 +37,7 @@ pub enum Chosen {
 fn spells(spellings: &[u8], starts: &[u16], lengths: &[u8], row: u8, name: &[u8]) -> bool
     ensures { λ r. ⌜ r ≡ spellsIn (now (spellings .entry)) (now (starts .entry)) (now (lengths .entry)) row (now (name .entry)) ⌝ }
 {
-    let at = wide(row);
-    let found = find(spellings, starts, lengths, at, at + 1, name);
-    match found {
-        Row::At(_) => true,
-        Row::Nowhere => false,
-    }
+    names::spells(spellings, starts, lengths, wide(row), name)
 }
 
 // A name of the list, at the place that the cursor found.
@@ -97,7 +90,8 @@ fn peer_first(spellings: &[u8], starts: &[u16], lengths: &[u8], own: &[u8], list
     }
 }
 
-// Once a name is shared, only an own row before its row can still be chosen, so no other is looked at again.
+// Once a name is shared, only an own row before its row can still be chosen, so no other is looked at again, and nothing
+// once it is the first.
 fn own_first(spellings: &[u8], starts: &[u16], lengths: &[u8], own: &[u8], list: &[u8]) -> Chosen
     ensures { λ r. ⌜ chose r ≡ ownFirst (spellsIn (now (spellings .entry)) (now (starts .entry)) (now (lengths .entry))) (now (own .entry)) (cut (now (list .entry))) ⌝ }
 {
@@ -109,6 +103,9 @@ fn own_first(spellings: &[u8], starts: &[u16], lengths: &[u8], own: &[u8], list:
             return row_at(own, best);
         };
         best = position(spellings, starts, lengths, &own[..best], at_place(list, p));
+        if best == 0 {
+            return row_at(own, best);
+        }
         c = d;
     }
 }

@@ -1,5 +1,6 @@
 mod CodeLaws
 mod OpeningLaws
+mod StoreLaws
 mod SealingLaws
 pub mod WriteLaws
 pub mod ReadLaws

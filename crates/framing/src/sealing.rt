@@ -14,6 +14,9 @@ use crate::Sealed;
 use answer::refuse;
 use wire::answers::Checked;
 
+// The most that padding_length answers.
+const MOST_PADDING: usize = 11;
+
 // "Cleartext packets (including lengths) must be multiple of 8 in length" (src/cipher/clear.rs).
 pub fn padding_length(payload: &[u8]) -> usize
     ensures padding { λ r. ⌜ r ≡ paddingLength (length (now (payload .entry))) ⌝ }
@@ -38,17 +41,36 @@ fn fill_padding(out: &mut [u8], at: usize, n: usize)
     }
 }
 
-// The room was tested by the caller, so that no put refuses.
+// A copy takes 32 bytes at a time and is slow with what is left, so the last 32 bytes are copied whole, some of them again.
+// They go by an array, which cannot overlap the output as the payload could for all that the compiler knows.
+fn put_payload(out: &mut [u8], x: &[u8])
+    requires { ⌜ 5 + length (now x) ≤ length (now out) ⌝ }
+    ensures { λ r. ⌜ now (out .exit) ≡ sets (now (out .entry)) 5 (now (x .entry)) ⌝ }
+{
+    if x.len() < 32 {
+        put::put_bytes(out, 5, x);
+        return;
+    }
+    let whole = x.len() / 32 * 32;
+    put::put_bytes(out, 5, &x[..whole]);
+    let last = x.len() - 32;
+    let mut piece = [0; 32];
+    put::put_bytes(&mut piece, 0, &x[last..]);
+    put::put_bytes(out, 5 + last, &piece);
+}
+
+// The room was tested by the caller, so that no put refuses. As many zeros as padding can be are stored before the payload,
+// which then stands over those that are too many: their number is a constant, so that they take two stores and no loop.
 fn seal(payload: &[u8], padding: u8, len: u32, out: &mut [u8])
     requires { ⌜ (padding ≡ paddingLength (length (now payload)))
         × (len ≡ packetLength (length (now payload)))
         × (4 + packetLength (length (now payload)) ≤ length (now out)) ⌝ }
     ensures { λ r. ⌜ now (out .exit) ≡ sets (now (out .entry)) 0 (frame (now (payload .entry))) ⌝ }
 {
+    fill_padding(out, 4 + len as usize - MOST_PADDING, MOST_PADDING);
     put::put_u32(out, 0, len);
     put::put_u8(out, 4, padding);
-    put::put_bytes(out, 5, payload);
-    fill_padding(out, 5 + payload.len(), padding as usize);
+    put_payload(out, payload);
 }
 
 pub fn write(payload: &[u8], k: Counters, out: &mut [u8]) -> Sealed

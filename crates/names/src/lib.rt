@@ -18,6 +18,7 @@ pub use rows::find;
 pub use rows::inside;
 pub use rows::put_row;
 pub use rows::spelling;
+pub use rows::spells;
 pub use rows::wide;
 pub use spell::put_name;
 

@@ -60,7 +60,8 @@ pub fn spelling<'a, 'b, 'c>(
     &spellings[..0]
 }
 
-fn spells(spellings: &[u8], starts: &[u16], lengths: &[u8], row: usize, name: &[u8]) -> bool
+// The row spells the name.
+pub fn spells(spellings: &[u8], starts: &[u16], lengths: &[u8], row: usize, name: &[u8]) -> bool
     ensures { λ r. ⌜ r ≡ is (rowName (now (spellings .entry)) (now (starts .entry)) (now (lengths .entry)) row) (now (name .entry)) ⌝ }
 {
     if inside(spellings, starts, lengths, row) {

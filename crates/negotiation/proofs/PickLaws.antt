@@ -34,7 +34,7 @@ use Rattle.negotiation.specs.declared.pick.Picked.{Picked}
 use Rattle.negotiation.specs.declared.pick.Picked.the-variants.{Row, Refused as Unpicked}
 use Rattle.negotiation.specs.declared.pick.Ruling.{Ruling}
 use Rattle.negotiation.specs.declared.pick.Ruling.the-variants.{Row as Ruled, Refused as Unruled}
-use Rattle.negotiation.specs.Stages.{ruled, ruling, picked, pickedFrom, pickedOf, pickedAt, standsIn, macRule, whyUnpicked}
+use Rattle.negotiation.specs.Stages.{guessed, ruled, ruling, picked, pickedFrom, pickedOf, pickedAt, standsIn, macRule, whyUnpicked}
 
 some-none : {r : ℕ} → _≡_ {A = Option ℕ} (some r) none → ⊥
 some-none h = let z : _≡_ {A = ℕ} 0 1 = cc in omega arith
@@ -120,11 +120,21 @@ picked-no : (b : Bool) (s : ℕ) → none ≡ pick b (some s) none → false ≡
 picked-no true s h = absurd (some-none (sym h))
 picked-no false s h = refl
 
+-- a guess is about kex and key alone
+module _ (n : ℕ) (f : Bool) where
+  pub first-asked : (b : Bool) → n ≤ 11 → b ≡ f → b ≡ (guessed n && f)
+  first-asked b h e = rw (e, le-leb n 11 h)
+
+  pub first-unasked : 11 < n → false ≡ (guessed n && f)
+  first-unasked h = rw (lt-leb n 11 h)
+
+pub ruleset first-laws = (first-asked, first-unasked)
+
 module _ (spells : ℕ → List ℕ → Bool) where
   -- the choice from a list's bytes
   module _ (side : Side) (rule : Rule) (n : ℕ) (own list : List ℕ) (k : Chosen) (told : chose k ≡ chosenRow spells side own (cut list))
       (u : Ruling) (said : ruling u ≡ ruled rule n (chose k)) (d : ℕ) where
-    pub from-row : (r : ℕ) (f : Bool) → u ≡ Ruled r → f ≡ firstBoth spells own (cut list) → done (r, f, d) ≡ pickedFrom spells side rule n own list d
+    pub from-row : (r : ℕ) (f : Bool) → u ≡ Ruled r → f ≡ (guessed n && firstBoth spells own (cut list)) → done (r, f, d) ≡ pickedFrom spells side rule n own list d
     unfolding pickedFrom _>>=_
     from-row r f e g = rw (← told, ← said, e, g)
 
@@ -149,7 +159,7 @@ module _ (spells : ℕ → List ℕ → Bool) where
   left-from : (side : Side) (rule : Rule) (n : ℕ) (own list p : List ℕ) (d : ℕ)
       → left p (pickedFrom spells side rule n own list d) ≡ pickedFrom spells side rule n own list (here p d)
   unfolding pickedFrom
-  left-from side rule n own list p d = left-bind p (ruled rule n (chosenRow spells side own (cut list))) (firstBoth spells own (cut list)) d
+  left-from side rule n own list p d = left-bind p (ruled rule n (chosenRow spells side own (cut list))) (guessed n && firstBoth spells own (cut list)) d
 
   -- the list and the choice
   module _ (side : Side) (rule : Rule) (n : ℕ) (own p : List ℕ) (i : ℕ) (t : GotText) (told : gotText p t ≡ nameList (here p i)) where

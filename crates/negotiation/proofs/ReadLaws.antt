@@ -21,7 +21,7 @@ use Rattle.preferred.specs.Tables.{Tables, valid}
 use Rattle.preferred.specs.Own.{member, rows, kexChosen, keyRows, strictName, other}
 use Rattle.preferred.proofs.RangeLaws.{within, chosen-within, keys-within, ciphers-within, macs-within, compressions-within}
 use Rattle.negotiation.specs.declared.Names.{Names}
-use Rattle.negotiation.specs.declared.stages.Rows.{Rows}
+use Rattle.negotiation.specs.declared.rows.Rows.{Rows}
 use Rattle.negotiation.specs.Written.{keyList, cipherList, macList, compressionList}
 use Rattle.negotiation.specs.Read.{offer, settle, settleMac, settled, strict, readKex, mostPayload}
 use Rattle.negotiation.specs.Stages.{recorded, lastFields, languages, compressions, macs, otherCipher, keys, lists, standsIn}

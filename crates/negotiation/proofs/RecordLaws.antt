@@ -9,7 +9,7 @@ use Rattle.negotiation.specs.declared.Names.{Names}
 use Rattle.negotiation.specs.declared.GotNames.{GotNames}
 use Rattle.negotiation.specs.declared.GotNames.the-variants.{Settled, Refused as NotSettled}
 use Rattle.negotiation.specs.Read.{gotNames}
-use Rattle.negotiation.specs.declared.stages.Rows.{Rows}
+use Rattle.negotiation.specs.declared.rows.Rows.{Rows}
 use Rattle.negotiation.specs.Stages.{keyPlace, recorded}
 
 pub place-certificate : (row n : ℕ) → 20 ≤ row → n ≡ row - 20 → n ≡ keyPlace row

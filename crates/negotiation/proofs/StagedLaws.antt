@@ -23,7 +23,7 @@ use Rattle.negotiation.specs.declared.Names.{Names}
 use Rattle.negotiation.specs.declared.pick.Rule.{Rule}
 use Rattle.negotiation.specs.declared.pick.Rule.the-variants.{Needed, Protected, Optional}
 use Rattle.negotiation.specs.Read.{offer, settle, settleMac, needsMac, noMac}
-use Rattle.negotiation.specs.Stages.{ruled, picked, pickedFrom, macRule}
+use Rattle.negotiation.specs.Stages.{guessed, ruled, picked, pickedFrom, macRule}
 use Rattle.negotiation.proofs.NameLaws.{mac-rule, no-mac, is-no-mac}
 
 -- a row that was chosen lies where the own rows lie
@@ -59,14 +59,14 @@ module _ (side : Side) (own : List ℕ) (from to : ℕ) (w : within from to own 
     abbrev Alike : Out (Run × At) → Type 0
     Alike m =
         (t : Run) (d : At) → m ≡ done (t, d) → (o : Option ℕ) → In from to o
-        → (ruled rule n o >>= λ r. K (r, bothFirst (spelledRows own) (cut (t .bytes)), d)) ≡ (settles (Option·map rowSpelled o) >>= λ name. K′ name (cut (t .bytes), d))
+        → (ruled rule n o >>= λ r. K (r, guessed n && bothFirst (spelledRows own) (cut (t .bytes)), d)) ≡ (settles (Option·map rowSpelled o) >>= λ name. K′ name (cut (t .bytes), d))
 
     at-names : (names : List (List ℕ)) (d : At)
-        → ((o : Option ℕ) → In from to o → (ruled rule n o >>= λ r. K (r, bothFirst (spelledRows own) names, d)) ≡ (settles (Option·map rowSpelled o) >>= λ name. K′ name (names, d)))
-        → ((ruled rule n (chosenRow spellsName side own names) >>= λ r. done (r, firstBoth spellsName own names, d)) >>= K)
+        → ((o : Option ℕ) → In from to o → (ruled rule n o >>= λ r. K (r, guessed n && bothFirst (spelledRows own) names, d)) ≡ (settles (Option·map rowSpelled o) >>= λ name. K′ name (names, d)))
+        → ((ruled rule n (chosenRow spellsName side own names) >>= λ r. done (r, guessed n && firstBoth spellsName own names, d)) >>= K)
         ≡ (settles (chosen side (spelledRows own) names) >>= λ name. K′ name (names, d))
     at-names names d j =
-        inner (ruled rule n (chosenRow spellsName side own names)) (firstBoth spellsName own names) d
+        inner (ruled rule n (chosenRow spellsName side own names)) (guessed n && firstBoth spellsName own names) d
         ∙ rw (both-in names, ← chosen-named side own names all-in) (j (chosenRow spellsName side own names) (chosen-in names _ refl))
 
     at-list : (m : Out (Run × At)) → Alike m
@@ -83,13 +83,13 @@ module _ (side : Side) (own : List ℕ) (from to : ℕ) (w : within from to own 
     named c j = at-list (nameList c) j
 
   -- what is to be shown of each row
-  abbrev Each : (ℕ × Bool × At → Out Names) → (List ℕ → List (List ℕ) × At → Out Names) → At → Type 0
-  Each K K′ c =
+  abbrev Each : ℕ → (ℕ × Bool × At → Out Names) → (List ℕ → List (List ℕ) × At → Out Names) → At → Type 0
+  Each n K K′ c =
       (t : Run) (d : At) → nameList c ≡ done (t, d) → (r : ℕ) → from ≤ r → r < to
-      → K (r, bothFirst (spelledRows own) (cut (t .bytes)), d) ≡ K′ (rowSpelled r) (cut (t .bytes), d)
+      → K (r, guessed n && bothFirst (spelledRows own) (cut (t .bytes)), d) ≡ K′ (rowSpelled r) (cut (t .bytes), d)
 
   -- a list that needs a shared name
-  module _ (n : ℕ) (K : ℕ × Bool × At → Out Names) (K′ : List ℕ → List (List ℕ) × At → Out Names) (c : At) (j : Each K K′ c) where
+  module _ (n : ℕ) (K : ℕ × Bool × At → Out Names) (K′ : List ℕ → List (List ℕ) × At → Out Names) (c : At) (j : Each n K K′ c) where
     needed-alike : Alike Needed n (settle n) K K′ (nameList c)
     unfolding ruled _>>=_
     needed-alike t d e none i = refl
@@ -100,9 +100,9 @@ module _ (side : Side) (own : List ℕ) (from to : ℕ) (w : within from to own 
 
 -- a MAC list, under the rule of a cipher's row
 module _ (side : Side) (own : List ℕ) (w : within 38 43 own ≡ true) (rc : ℕ) (h : 27 ≤ rc) (l : rc < 38)
-    (K : ℕ × Bool × At → Out Names) (K′ : List ℕ → List (List ℕ) × At → Out Names) (c : At) (j : Each side own 38 43 w (lit≤ tt) K K′ c) where
+    (K : ℕ × Bool × At → Out Names) (K′ : List ℕ → List (List ℕ) × At → Out Names) (c : At) (j : Each side own 38 43 w (lit≤ tt) 13 K K′ c) where
   under : (t : Run) (d : At) → nameList c ≡ done (t, d) → (b : Bool) → needsMac (rowSpelled rc) ≡ b → (o : Option ℕ) → In 38 43 o
-      → (ruled (pick b Protected Optional) 13 o >>= λ r. K (r, bothFirst (spelledRows own) (cut (t .bytes)), d))
+      → (ruled (pick b Protected Optional) 13 o >>= λ r. K (r, guessed 13 && bothFirst (spelledRows own) (cut (t .bytes)), d))
       ≡ (settleMac (rowSpelled rc) (Option·map rowSpelled o) >>= λ name. K′ name (cut (t .bytes), d))
   unfolding ruled settleMac _>>=_
   under t d e true f none i = rw f

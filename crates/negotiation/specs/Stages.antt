@@ -21,7 +21,7 @@ use Rattle.negotiation.specs.declared.pick.Picked.{Picked}
 use Rattle.negotiation.specs.declared.pick.Picked.the-variants.{Row, Refused as Unpicked}
 use Rattle.negotiation.specs.declared.pick.Ruling.{Ruling}
 use Rattle.negotiation.specs.declared.pick.Ruling.the-variants.{Row as Ruled, Refused as Unruled}
-use Rattle.negotiation.specs.declared.stages.Rows.{Rows}
+use Rattle.negotiation.specs.declared.rows.Rows.{Rows}
 
 -- a choice under a rule: a shared name is needed; needed, and not `none`; or its lack is `none`. 38 is the row of the MAC
 -- `none`.
@@ -33,12 +33,15 @@ ruled Protected n (some r) = pick (eqb r 38) (refuse n) (done r)
 ruled Optional n none = done 38
 ruled Optional n (some r) = done r
 
+abbrev pub guessed : ℕ → Bool
+guessed n = leb n 11
+
 module _ (spells : ℕ → List ℕ → Bool) where
-  -- the choice from a list's bytes: the row, and whether it is both first
+  -- The choice from a list's bytes: the row, and whether it is both first. A guess is about kex and key, 10 and 11, alone.
   unfoldable pub pickedFrom : {A : Type 0} → Side → Rule → ℕ → List ℕ → List ℕ → A → Out (ℕ × Bool × A)
   pickedFrom side rule n own list d = do
     r ← ruled rule n (chosenRow spells side own (cut list))
-    done (r, firstBoth spells own (cut list), d)
+    done (r, guessed n && firstBoth spells own (cut list), d)
 
   -- one list and the choice from it, and what is left
   unfoldable pub picked : Side → Rule → ℕ → List ℕ → At → Out (ℕ × Bool × At)

@@ -4,6 +4,7 @@
 // lent slices and tables of numbers.
 mod pick;
 mod read;
+mod rows;
 mod stages;
 
 use answer::Refusal;

@@ -3,10 +3,12 @@
 // Copyright 2016 Pierre-Étienne Meunier, licensed under the Apache License, Version 2.0 (NOTICE); changed: rewritten for
 // lent slices and tables of numbers.
 ghost use mathlib.Core.Path.{_≡_};
+ghost use mathlib.Core.Bool.{_&&_};
 ghost use mathlib.Core.Option.{some, none};
 ghost use Rattle.wire.specs.Fields.{here};
-ghost use Rattle.choice.specs.Rows.{spellsIn, chose};
-ghost use Rattle.negotiation.specs.Stages.{ruled, ruling, picked, pickedFrom, pickedAt, standsIn, macRule, pickedOf, whyUnpicked};
+ghost use Rattle.wire.specs.Names.{cut};
+ghost use Rattle.choice.specs.Rows.{spellsIn, chose, firstBoth};
+ghost use Rattle.negotiation.specs.Stages.{guessed, ruled, ruling, picked, pickedFrom, pickedAt, standsIn, macRule, pickedOf, whyUnpicked};
 use answer::Refusal;
 use answer::refuse;
 use choice::Chosen;
@@ -102,6 +104,23 @@ fn rule_on(rule: Rule, number: u8, chosen: Chosen) -> Ruling
     }
 }
 
+// A guess is about kex and key alone: no other list is looked at for it.
+fn first_of(
+    spellings: &[u8],
+    starts: &[u16],
+    lengths: &[u8],
+    number: u8,
+    own: &[u8],
+    list: &[u8],
+) -> bool
+    ensures { λ r. ⌜ r ≡ (guessed number && firstBoth (spellsIn (now (spellings .entry)) (now (starts .entry)) (now (lengths .entry))) (now (own .entry)) (cut (now (list .entry)))) ⌝ }
+{
+    if number <= 11 {
+        return both_first(spellings, starts, lengths, own, list);
+    }
+    false
+}
+
 // The choice from a list's bytes. The refusal carries `number` where the rule asks for a shared name and there is none.
 fn pick_from(
     spellings: &[u8],
@@ -117,7 +136,7 @@ fn pick_from(
     ensures { λ r. ⌜ pickedAt r ≡ pickedFrom (spellsIn (now (spellings .entry)) (now (starts .entry)) (now (lengths .entry))) side rule number (now (own .entry)) (now (list .entry)) (d .at) ⌝ }
 {
     let chosen = choose(spellings, starts, lengths, side, own, list);
-    let first = both_first(spellings, starts, lengths, own, list);
+    let first = first_of(spellings, starts, lengths, number, own, list);
     let ruling = rule_on(rule, number, chosen);
     match ruling {
         Ruling::Row(row) => Picked::Row(row, first, d),

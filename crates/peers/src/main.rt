@@ -1,44 +1,37 @@
-// What a side with the default tables would settle on with real peers: the first packet of each, a file that an argument
-// names, is read as a server that holds a key of each kind, and as a client. docs/PEERS.md says what it shows. What is
-// written is held to the file stdout.
-use answer::Refusal;
-use answer::refuse;
+// The first packets of real SSH programs, one file each, read as a server and as a client with the default tables: what would
+// be settled, or the number of the refusal. The files are named by the arguments; data/INDEX.tsv says where they come from,
+// docs/PEERS.md what the outcome means. What is written is held to the file stdout.
 use choice::Side;
 use framing::Counters;
 use framing::GotPacket;
 use framing::Packet;
 use negotiation::GotNames;
+use negotiation::Names;
 use preferred::defaults;
 use say::front;
 
-// Ed25519, P256, P384, P521, RSA.
+// The server holds a key of each kind, and no certificate.
 const KINDS: [u8; 5] = [0, 1, 2, 3, 4];
+
+const IDS: [u32; 5] = [1, 2, 3, 4, 5];
 
 fn words(s: &[u8]) {
     io::write_all(1, s);
 }
 
-fn refused(r: Refusal) {
-    words(b", refused with ");
-    io::print_decimal(1, names::wide(r.number) as u64);
+fn number(s: &[u8], n: usize) {
+    words(s);
+    io::print_decimal(1, n as u64);
 }
 
-fn tells(name: &[u8], side: &[u8], got: GotNames) {
-    words(name);
-    words(side);
+fn settled(n: Names) {
     let mut text = [0u8; 1024];
-    match got {
-        GotNames::Settled(n) => {
-            let end = say::put_settled(n, b", ", &mut text);
-            words(front(&text, end));
-        }
-        GotNames::Refused(r) => refused(r),
-    }
-    words(b"\n");
+    let end = say::put_settled(n, b", ", &mut text);
+    words(front(&text, end));
 }
 
-fn settles(side: Side, kinds: &[u8], ids: &[u32], payload: &[u8]) -> GotNames {
-    negotiation::read_kex(
+fn settles(side: Side, kinds: &[u8], ids: &[u32], payload: &[u8]) {
+    let got = negotiation::read_kex(
         side,
         &defaults::KEX,
         &defaults::KEY,
@@ -52,77 +45,50 @@ fn settles(side: Side, kinds: &[u8], ids: &[u32], payload: &[u8]) -> GotNames {
         &ids[..0],
         false,
         payload,
-    )
-}
-
-fn both(name: &[u8], payload: &[u8]) {
-    let ids = [1u32, 2, 3, 4, 5];
-    tells(
-        name,
-        b" as server",
-        settles(Side::Server, &KINDS, &ids, payload),
     );
-    tells(
-        name,
-        b" as client",
-        settles(Side::Client, b"", &ids[..0], payload),
-    );
+    match got {
+        GotNames::Settled(n) => settled(n),
+        GotNames::Refused(r) => number(b" refuses with ", names::wide(r.number)),
+    }
 }
 
-fn stops(name: &[u8], r: Refusal) {
-    words(name);
-    refused(r);
-    words(b"\n");
-}
-
-fn whole(name: &[u8], s: &[u8], p: Packet) {
+fn opens(s: &[u8], p: Packet) {
     let mut no = 0;
     let payload = framing::payload(s, p, &mut no);
-    if no != 0 {
-        stops(name, refuse(no));
-        return;
-    }
-    both(name, payload);
+    number(b" payload ", payload.len());
+    words(b"\n  our server");
+    settles(Side::Server, &KINDS, &IDS, payload);
+    words(b"\n  our client");
+    settles(Side::Client, b"", &IDS[..0], payload);
 }
 
-fn opens(name: &[u8], s: &[u8]) {
+fn reads(s: &[u8]) {
     let got = framing::read(s, Counters { seqn: 0, bytes: 0 });
     match got {
-        GotPacket::Whole(p) => whole(name, s, p),
-        GotPacket::Need(n) => {
-            words(name);
-            words(b", bytes needed: ");
-            io::print_decimal(1, n as u64);
-            words(b"\n");
-        }
-        GotPacket::Refused(r) => stops(name, r),
+        GotPacket::Whole(p) => opens(s, p),
+        GotPacket::Need(n) => number(b" needs ", n),
+        GotPacket::Refused(r) => number(b" refused with ", names::wide(r.number)),
     }
 }
 
-fn reads(name: &[u8]) {
+fn peer(name: &[u8]) {
+    words(name);
     let fd = os::open_read(name);
-    if fd < 0 {
-        words(name);
-        words(b" cannot be opened\n");
-        return;
-    }
-    let mut packet = io::buffer();
-    let n = io::read_full(fd, &mut packet);
+    let mut space = io::buffer();
+    let got = io::read_full(fd, &mut space);
     libc::close(fd);
-    opens(name, &packet[..n]);
-}
-
-fn peer(i: usize) {
-    let mut name = io::buffer();
-    let n = os::arg(i, &mut name);
-    reads(&name[..n]);
+    number(b": bytes ", got);
+    reads(front(&space, got));
+    words(b"\n");
 }
 
 fn main() {
     let count = os::arg_count();
     let mut i = 1;
     while i < count {
-        peer(i);
+        let mut name = [0u8; 256];
+        let len = os::arg(i, &mut name);
+        peer(front(&name, len));
         i += 1;
     }
 }

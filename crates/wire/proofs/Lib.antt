@@ -2,6 +2,7 @@ pub mod FieldLaws
 pub mod RunLaws
 pub mod ShowLaws
 pub mod ListLaws
+mod PlainLaws
 pub mod CutLaws
 pub mod JudgeLaws
 pub mod UniqueLaws

@@ -22,6 +22,7 @@ mod differences;
 mod names;
 
 pub use differences::differences;
+pub use names::{needs_mac, spelling};
 
 /// The Rust's errors and document 01's numbers.
 fn number(error: Error) -> u8 {

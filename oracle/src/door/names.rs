@@ -71,3 +71,23 @@ pub fn compression_number(c: &compression::Compression) -> u8 {
         compression::Compression::None => 0,
     }
 }
+
+/// A name as the text spells it, by document 01's kind and number; none where a stand-in spells it (keys and
+/// certificates) or there is no such number.
+pub fn spelling(kind: u8, number: u8) -> Option<&'static str> {
+    let n = number as usize;
+    match kind {
+        0 => KEX.get(n).map(|name| name.as_ref()),
+        3 => CIPHER.get(n).map(|name| name.as_ref()),
+        4 => MAC.get(n).map(|name| name.as_ref()),
+        5 => COMPRESSION.get(n).map(|name| name.as_ref()),
+        _ => None,
+    }
+}
+
+/// `Cipher::needs_mac`; none for gcm and chacha20, which are stand-ins, and where there is no such number
+pub fn needs_mac(number: u8) -> Option<bool> {
+    let name = CIPHER.get(number as usize)?;
+    let standing_in = [cipher::AES_128_GCM, cipher::AES_256_GCM, cipher::CHACHA20_POLY1305];
+    if standing_in.contains(name) { None } else { cipher::CIPHERS.get(name).map(|c| c.needs_mac()) }
+}

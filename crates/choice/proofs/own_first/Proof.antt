@@ -26,6 +26,9 @@ slice-aggregate-position c = search own-laws
 at-place-requires : tie.Need-at-place-requires Inv-loop μ-loop
 at-place-requires c κs = search own-laws
 
+returns-2 : tie.Need-returns-2 Inv-loop μ-loop
+returns-2 c = search own-laws
+
 loop-less : tie.Need-loop-less Inv-loop μ-loop
 loop-less c = search own-laws
 
@@ -47,5 +50,7 @@ own-first-spec =
     slice-aggregate-position
     at-place-requires
     (λ c κs. search needs)
+    (λ c κs. search needs)
+    returns-2
     loop-less
     loop-again)

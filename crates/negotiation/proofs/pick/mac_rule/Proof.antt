@@ -1,26 +1,19 @@
 use Rattle.negotiation.proofs.PickLaws.{rule-laws}
 use Rattle.negotiation.proofs.pick.mac_rule.Statement.{statement}
 use Rattle.negotiation.proofs.pick.mac_rule.Tie as tie
-use Rattle.negotiation.proofs.pick.mac_rule.Reads as reads
-use Rattle.negotiation.proofs.pick.mac_rule.Lts as lts
 
--- src/pick.rt:50:9
 returns : tie.Need-returns
 returns c = search rule-laws
 
--- src/pick.rt:53:9
 returns-2 : tie.Need-returns-2
 returns-2 c = search rule-laws
 
--- src/pick.rt:56:9
 returns-3 : tie.Need-returns-3
 returns-3 c = search rule-laws
 
--- src/pick.rt:59:9
 returns-4 : tie.Need-returns-4
 returns-4 c = search rule-laws
 
--- src/pick.rt:46:1
 returns-5 : tie.Need-returns-5
 returns-5 c = search rule-laws
 

@@ -5,7 +5,7 @@ use Rattle.negotiation.proofs.stages.last_fields.Statement.{statement}
 use Rattle.negotiation.proofs.stages.last_fields.Tie as tie
 use Rattle.negotiation.proofs.stages.last_fields.Reads as reads
 use Rattle.negotiation.proofs.stages.last_fields.Lts as lts
-use Rattle.negotiation.proofs.stages.record.Reads as record-reads
+use Rattle.negotiation.proofs.rows.record.Reads as record-reads
 use Rattle.wire.proofs.answers.Checked.why.Reads as answers-Checked-why-reads
 use Rattle.wire.proofs.answers.Cursor.end.Reads as end-reads
 use Rattle.wire.proofs.answers.Cursor.u32.Reads as u32-reads

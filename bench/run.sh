@@ -1,0 +1,71 @@
+#!/bin/sh
+# Builds the benchmark, counts instructions, times where times mean something, and prints the tables of docs/BENCHMARKS.md.
+# LIBDOOR, LTO: as in bench/build.sh. RUSSH_TEXT: the folder of the Rust's text; CAPTURES: real first packets. Both default
+# to folders beside the repository.
+#
+# Instructions of a call are those of a run with 2N calls less those of a run with N, by N, so that whatever else a run does
+# falls out: by callgrind on an x86-64 machine, by a plugin of the emulator on another.
+set -eu
+bench=$(cd "$(dirname "$0")" && pwd)
+captures=${CAPTURES:-$bench/../../shared/captures}
+calls=100
+if [ ! -f "$captures/INDEX.tsv" ]; then
+    echo "bench: no INDEX.tsv in '$captures': name the folder of the captures by CAPTURES" >&2
+    exit 2
+fi
+export CAPTURES="$(cd "$captures" && pwd)"
+"$bench/build.sh" ${RUSSH_TEXT:+"$RUSSH_TEXT"}
+cd "$bench/target"
+
+# libc picks its memcpy by the machine. For long ones it picks `rep movs`, of which counters count each byte: that one is
+# ruled out. The other sides have the widest registers of the machine; a side named SSE2 has those that every x86-64 has.
+libc() {
+    case $1 in
+    *SSE2*) echo glibc.cpu.hwcaps=-ERMS,-FSRM,-AVX_Fast_Unaligned_Load,-SSSE3 ;;
+    *) echo glibc.cpu.hwcaps=-ERMS,-FSRM ;;
+    esac
+}
+
+case $(uname -m) in
+x86_64)
+    command -v valgrind >/dev/null || { echo "bench: no valgrind: apt-get install valgrind" >&2; exit 2; }
+    runner=''
+    counter='valgrind --tool=callgrind --callgrind-out-file=/dev/null'
+    counted='s/^==[0-9]*== Collected : *\([0-9]*\).*/\1/p'
+    tool="callgrind of $(valgrind --version)"
+    ;;
+*)
+    runner=qemu-x86_64
+    command -v cc >/dev/null || { echo "bench: no cc for the plugin: apt-get install gcc libc6-dev" >&2; exit 2; }
+    cc -O2 -Wall -Wextra -shared -fPIC -o count.so ../count.c
+    counter="qemu-x86_64 -plugin ./count.so"
+    counted='s/^instructions: //p'
+    tool="bench/count.c under $(qemu-x86_64 --version | head -n 1)"
+    ;;
+esac
+
+count() { # GROUP CASE SIDE CALLS
+    GLIBC_TUNABLES=$(libc "$3") $counter ./bench run "$@" > log 2>&1 </dev/null || {
+        echo "bench: a run of '$1', '$2', '$3' failed:" >&2
+        cat log >&2
+        exit 1
+    }
+    sed -n "$counted" log
+}
+
+tab=$(printf '\t')
+$runner ./bench list > list
+while IFS=$tab read -r group case side; do
+    once=$(count "$group" "$case" "$side" $calls)
+    twice=$(count "$group" "$case" "$side" $((2 * calls)))
+    printf '%s\t%s\t%s\t' "$group" "$case" "$side"
+    awk -v once="$once" -v twice="$twice" -v calls=$calls 'BEGIN { printf "%.2f\n", (twice - once) / calls }'
+done < list > counts
+
+echo "Instructions counted by $tool."
+if [ -z "$runner" ]; then
+    ./bench time > times
+    exec ./bench table counts times
+fi
+echo "No times: under an emulator they say nothing."
+exec $runner ./bench table counts

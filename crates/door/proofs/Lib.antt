@@ -1,0 +1,3 @@
+mod DoorLaws
+mod OpenLaws
+mod KindLaws

@@ -1,0 +1,11 @@
+use Rattle.door.proofs.DoorLaws.{door-laws}
+use borrow.Author.Needs.{needs}
+use Rattle.door.proofs.channel.harupesat_unknown_type.Statement.{statement}
+use Rattle.door.proofs.channel.harupesat_unknown_type.Tie as tie
+
+returns : tie.Need-returns
+returns c = search door-laws
+
+pub harupesat-unknown-type-spec : {M : Type 1} → statement M
+harupesat-unknown-type-spec =
+    tie.close (tie.spec (λ c κs. search needs) (λ c κs. search needs) (λ c. search needs) returns)

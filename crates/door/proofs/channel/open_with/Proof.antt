@@ -1,0 +1,10 @@
+use Rattle.door.specs.Numbers.{openWith}
+use Rattle.door.proofs.channel.open_with.Statement.{statement}
+use Rattle.door.proofs.channel.open_with.Tie as tie
+
+returns : tie.Need-returns
+unfolding openWith
+returns c = cc
+
+pub open-with-spec : {M : Type 1} → statement M
+open-with-spec = tie.close (tie.spec returns)

@@ -1,0 +1,305 @@
+//! Our static library, asked through include/harupesat.h: plain numbers and bytes in and out (src/plain.rs), as the
+//! oracle's door and the model speak them. A slice without elements is lent as a null pointer.
+
+mod header;
+
+use header::*;
+use plain::{ChannelType, Counters, Opening, Out, Read, Side, Tables, Tcp};
+use std::ptr::{null, null_mut};
+
+const REFUSED: u8 = 0;
+const DONE: u8 = 1;
+const NEED: u8 = 2;
+const UNKNOWN: u8 = 3;
+
+/// In a refusal's place: the struct is none that the header allows (an unused field that is not 0, a flag that is no bool,
+/// a place outside the slice lent, a number that no refusal carries).
+pub const MALFORMED: u8 = 255;
+
+/// where a text stands: start and length
+pub type Place = (usize, usize);
+
+fn at<T>(s: &[T]) -> *const T {
+    if s.is_empty() { null() } else { s.as_ptr() }
+}
+
+fn room(out: &mut [u8]) -> *mut u8 {
+    if out.is_empty() { null_mut() } else { out.as_mut_ptr() }
+}
+
+/// Goes on where the answer is no refusal; a refusal holds its number and nothing else.
+macro_rules! accepted {
+    ($answer:expr, $type:ident) => {{
+        let answer = $answer;
+        if answer.what == REFUSED {
+            let allowed = answer == $type { number: answer.number, ..$type::default() };
+            return Err(if allowed && (1..=14).contains(&answer.number) { answer.number } else { MALFORMED });
+        }
+        answer
+    }};
+}
+
+fn exactly<T: PartialEq>(answer: T, allowed: T) -> Out<()> {
+    if answer == allowed { Ok(()) } else { Err(MALFORMED) }
+}
+
+fn flag(byte: u8) -> Out<bool> {
+    match byte {
+        0 => Ok(false),
+        1 => Ok(true),
+        _ => Err(MALFORMED),
+    }
+}
+
+fn part(s: &[u8], (start, len): Place) -> Out<Vec<u8>> {
+    let end = start.checked_add(len).ok_or(MALFORMED)?;
+    s.get(start..end).map(|part| part.to_vec()).ok_or(MALFORMED)
+}
+
+fn written(answer: Written) -> Out<usize> {
+    let a = accepted!(answer, Written);
+    let len = a.len;
+    exactly(a, Written { what: DONE, number: 0, len })?;
+    Ok(len)
+}
+
+/// the packet, and where its payload stands
+pub fn frame_read(s: &[u8], k: Counters) -> Out<(Read, Place)> {
+    let a = accepted!(unsafe { harupesat_frame_read(at(s), s.len(), k.seqn, k.bytes) }, Frame);
+    if a.what == NEED {
+        let need = a.need;
+        exactly(a, Frame { what: NEED, need, ..Frame::default() })?;
+        return Ok((Read::Need(need), (0, 0)));
+    }
+    let place = (a.start, a.len);
+    let read = Read::Packet {
+        payload: part(s, place)?,
+        end: a.end,
+        taken: a.taken,
+        counters: Counters { seqn: a.seqn, bytes: a.bytes },
+    };
+    exactly((a.what, a.number, a.need), (DONE, 0, 0))?;
+    Ok((read, place))
+}
+
+pub fn frame_write(payload: &[u8], k: Counters, out: &mut [u8]) -> Out<(usize, Counters)> {
+    let answer =
+        unsafe { harupesat_frame_write(at(payload), payload.len(), k.seqn, k.bytes, room(out), out.len()) };
+    let a = accepted!(answer, Sealed);
+    exactly((a.what, a.number), (DONE, 0))?;
+    Ok((a.len, Counters { seqn: a.seqn, bytes: a.bytes }))
+}
+
+pub fn write_kex(t: &Tables, cookie: &[u8], out: &mut [u8]) -> Out<usize> {
+    written(unsafe {
+        harupesat_write_kex(
+            t.side == Side::Server,
+            at(&t.kex),
+            t.kex.len(),
+            at(&t.key),
+            t.key.len(),
+            at(&t.certificate),
+            t.certificate.len(),
+            at(&t.cipher),
+            t.cipher.len(),
+            at(&t.mac),
+            t.mac.len(),
+            at(&t.compression),
+            t.compression.len(),
+            at(&t.key_kinds),
+            t.key_kinds.len(),
+            at(&t.key_ids),
+            t.key_ids.len(),
+            at(&t.cert_kinds),
+            t.cert_kinds.len(),
+            at(&t.cert_ids),
+            t.cert_ids.len(),
+            at(cookie),
+            cookie.len(),
+            room(out),
+            out.len(),
+        )
+    })
+}
+
+pub fn read_kex(t: &Tables, rekey: bool, payload: &[u8]) -> Out<plain::Names> {
+    let answer = unsafe {
+        harupesat_read_kex(
+            t.side == Side::Server,
+            at(&t.kex),
+            t.kex.len(),
+            at(&t.key),
+            t.key.len(),
+            at(&t.certificate),
+            t.certificate.len(),
+            at(&t.cipher),
+            t.cipher.len(),
+            at(&t.mac),
+            t.mac.len(),
+            at(&t.compression),
+            t.compression.len(),
+            at(&t.key_kinds),
+            t.key_kinds.len(),
+            at(&t.key_ids),
+            t.key_ids.len(),
+            at(&t.cert_kinds),
+            t.cert_kinds.len(),
+            at(&t.cert_ids),
+            t.cert_ids.len(),
+            rekey,
+            at(payload),
+            payload.len(),
+        )
+    };
+    let a = accepted!(answer, Names);
+    exactly((a.what, a.number), (DONE, 0))?;
+    Ok(plain::Names {
+        kex: a.kex,
+        key: a.key,
+        cipher: a.cipher,
+        client_mac: a.client_mac,
+        server_mac: a.server_mac,
+        client_compression: a.client_compression,
+        server_compression: a.server_compression,
+        host_key_is_certificate: flag(a.host_key_is_certificate)?,
+        ignore_guessed: flag(a.ignore_guessed)?,
+        strict_kex: flag(a.strict_kex)?,
+    })
+}
+
+/// the fields that a type uses, the others being 0
+fn used(a: &Open) -> Open {
+    let all = Open {
+        what: DONE,
+        number: 0,
+        typ: a.typ,
+        recipient_channel: a.recipient_channel,
+        recipient_window_size: a.recipient_window_size,
+        recipient_maximum_packet_size: a.recipient_maximum_packet_size,
+        ..Open::default()
+    };
+    match a.typ {
+        1 => Open {
+            originator_start: a.originator_start,
+            originator_len: a.originator_len,
+            originator_port: a.originator_port,
+            ..all
+        },
+        2 | 4 => Open {
+            text_start: a.text_start,
+            text_len: a.text_len,
+            port: a.port,
+            originator_start: a.originator_start,
+            originator_len: a.originator_len,
+            originator_port: a.originator_port,
+            ..all
+        },
+        3 | 5 => Open { text_start: a.text_start, text_len: a.text_len, ..all },
+        7 => Open {
+            text_start: a.text_start,
+            text_len: a.text_len,
+            rest_start: a.rest_start,
+            rest_len: a.rest_len,
+            ..all
+        },
+        _ => all,
+    }
+}
+
+/// the message, and where its text, its originator and its rest stand
+pub fn open(body: &[u8]) -> Out<(Opening, [Place; 3])> {
+    let a = accepted!(unsafe { harupesat_read_open(at(body), body.len()) }, Open);
+    let places = [
+        (a.text_start, a.text_len),
+        (a.originator_start, a.originator_len),
+        (a.rest_start, a.rest_len),
+    ];
+    let [text, originator, rest] = places;
+    let tcp = || -> Out<Tcp> {
+        Ok(Tcp {
+            host: part(body, text)?,
+            port: a.port,
+            originator: part(body, originator)?,
+            originator_port: a.originator_port,
+        })
+    };
+    let typ = match a.typ {
+        0 => ChannelType::Session,
+        1 => ChannelType::X11 { originator: part(body, originator)?, port: a.originator_port },
+        2 => ChannelType::DirectTcpip(tcp()?),
+        3 => ChannelType::DirectStreamLocal { path: part(body, text)? },
+        4 => ChannelType::ForwardedTcpIp(tcp()?),
+        5 => ChannelType::ForwardedStreamLocal { path: part(body, text)? },
+        6 => ChannelType::AgentForward,
+        7 => ChannelType::Unknown { typ: part(body, text)?, rest: part(body, rest)? },
+        _ => return Err(MALFORMED),
+    };
+    let opening = Opening {
+        typ,
+        recipient_channel: a.recipient_channel,
+        recipient_window_size: a.recipient_window_size,
+        recipient_maximum_packet_size: a.recipient_maximum_packet_size,
+    };
+    let allowed = used(&a);
+    exactly(a, allowed)?;
+    Ok((opening, places))
+}
+
+pub fn confirmation(body: &[u8]) -> Out<plain::Confirmation> {
+    let a = accepted!(unsafe { harupesat_read_confirmation(at(body), body.len()) }, Confirmation);
+    exactly((a.what, a.number), (DONE, 0))?;
+    Ok(plain::Confirmation {
+        recipient_channel: a.recipient_channel,
+        sender_channel: a.sender_channel,
+        initial_window_size: a.initial_window_size,
+        maximum_packet_size: a.maximum_packet_size,
+    })
+}
+
+pub fn fail(recipient: u32, reason: u8, text: &[u8], out: &mut [u8]) -> Out<usize> {
+    written(unsafe { harupesat_fail(recipient, reason, at(text), text.len(), room(out), out.len()) })
+}
+
+pub fn unknown_type(recipient: u32, out: &mut [u8]) -> Out<usize> {
+    written(unsafe { harupesat_unknown_type(recipient, room(out), out.len()) })
+}
+
+/// the part of s at a place; the place handed back is the one asked for
+pub fn show(s: &[u8], (start, len): Place) -> Out<Vec<u8>> {
+    let a = accepted!(unsafe { harupesat_show(at(s), s.len(), start, len) }, Shown);
+    exactly(a, Shown { what: DONE, number: 0, start, len })?;
+    part(s, (start, len))
+}
+
+pub fn spelling(kind: u8, number: u8, out: &mut [u8]) -> Out<usize> {
+    written(unsafe { harupesat_spelling(kind, number, room(out), out.len()) })
+}
+
+/// a name's number, none for a name that the kind does not have
+pub fn lookup(kind: u8, name: &[u8]) -> Out<Option<u8>> {
+    let a = accepted!(unsafe { harupesat_lookup(kind, at(name), name.len()) }, Found);
+    if a.what == UNKNOWN {
+        exactly(a, Found { what: UNKNOWN, number: 0, value: 0 })?;
+        return Ok(None);
+    }
+    exactly((a.what, a.number), (DONE, 0))?;
+    Ok(Some(a.value))
+}
+
+fn flagged(answer: Flag) -> Out<bool> {
+    let a = accepted!(answer, Flag);
+    exactly((a.what, a.number), (DONE, 0))?;
+    flag(a.value)
+}
+
+pub fn needs_mac(cipher: u8) -> Out<bool> {
+    flagged(unsafe { harupesat_needs_mac(cipher) })
+}
+
+pub fn built_in_integrity(cipher: u8) -> Out<bool> {
+    flagged(unsafe { harupesat_built_in_integrity(cipher) })
+}
+
+pub fn default_list(kind: u8, out: &mut [u8]) -> Out<usize> {
+    written(unsafe { harupesat_default_list(kind, room(out), out.len()) })
+}
