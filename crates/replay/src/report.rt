@@ -1,4 +1,5 @@
 // What is written: each line that differs, and how many answers of each function and sort were replayed.
+use names::Row;
 
 pub const FUNCTIONS: usize = 8;
 
@@ -28,46 +29,33 @@ pub fn differs(number: u64, recorded: &[u8], ours: &[u8]) {
     words(b"\n");
 }
 
-// The function's place in the table, FUNCTIONS where there is none of the name.
+// The functions' names as columns, in the report's order: looked up and spelled as the tables' names are.
+const SPELLINGS: [u8; 70] = *b"\
+    read_kex\
+    write_kex\
+    frame_read\
+    frame_write\
+    open\
+    confirmation\
+    fail\
+    unknown_type\
+";
+
+const STARTS: [u16; FUNCTIONS] = [0, 8, 17, 27, 38, 42, 54, 58];
+
+const LENGTHS: [u8; FUNCTIONS] = [8, 9, 10, 11, 4, 12, 4, 12];
+
+// The function's place in the report, FUNCTIONS where there is none of the name.
 pub fn place(name: &[u8]) -> usize {
-    if text::same(name, b"read_kex") {
-        return 0;
+    let at = names::find(&SPELLINGS, &STARTS, &LENGTHS, 0, FUNCTIONS, name);
+    match at {
+        Row::At(n) => n,
+        Row::Nowhere => FUNCTIONS,
     }
-    if text::same(name, b"write_kex") {
-        return 1;
-    }
-    if text::same(name, b"frame_read") {
-        return 2;
-    }
-    if text::same(name, b"frame_write") {
-        return 3;
-    }
-    if text::same(name, b"open") {
-        return 4;
-    }
-    if text::same(name, b"confirmation") {
-        return 5;
-    }
-    if text::same(name, b"fail") {
-        return 6;
-    }
-    if text::same(name, b"unknown_type") {
-        return 7;
-    }
-    FUNCTIONS
 }
 
 fn name(function: usize) {
-    match function {
-        0 => words(b"read_kex"),
-        1 => words(b"write_kex"),
-        2 => words(b"frame_read"),
-        3 => words(b"frame_write"),
-        4 => words(b"open"),
-        5 => words(b"confirmation"),
-        6 => words(b"fail"),
-        _ => words(b"unknown_type"),
-    }
+    words(names::spelling(&SPELLINGS, &STARTS, &LENGTHS, function));
 }
 
 pub fn count(counts: &mut [u64], function: usize, sort: u8) {
@@ -84,13 +72,15 @@ fn cell(sort: usize, n: u64) {
     if n == 0 {
         return;
     }
+    value(b" ", n);
     match sort {
-        0 => words(b" ok"),
-        15 => words(b" need"),
-        _ => value(b" no ", sort as u64),
+        0 => words(b" ok;"),
+        15 => words(b" need;"),
+        _ => {
+            value(b" no ", sort as u64);
+            words(b";");
+        }
     }
-    value(b": ", n);
-    words(b";");
 }
 
 fn sum(counts: &[u64]) -> u64 {
@@ -105,7 +95,7 @@ fn sum(counts: &[u64]) -> u64 {
 
 fn row(function: usize, counts: &[u64]) {
     name(function);
-    value(b", ", sum(counts));
+    value(b" ", sum(counts));
     words(b" answers:");
     let mut s = 0;
     while s < counts.len() {
@@ -126,6 +116,6 @@ pub fn table(counts: &[u64]) {
         row(f, &counts[from..from + SORTS]);
         f += 1;
     }
-    value(b"all functions, ", sum(counts));
+    value(b"all ", sum(counts));
     words(b" answers\n");
 }
