@@ -26,4 +26,4 @@ if [ $kind = text ]; then need_library; else unset LIBDOOR; fi
 mkdir -p "$target"
 $host_rustc --edition 2024 -O --crate-name mutants -o "$target/mutants" "$here/src/mutants/main.rs"
 export RUSTC="$rustc" RUNNER="$runner"
-exec "$target/mutants" $kind "$here" "$target" "${2:-$n}" "${CAPTURES:-$here/../../shared/captures}"
+exec "$target/mutants" $kind "$here" "$target" "${2:-$n}" "${CAPTURES:-$here/../crates/peers/data}"

@@ -140,7 +140,9 @@ fn replayed(work: &Path) -> Seen {
     let text = [&run.stdout[..], &run.stderr[..]].concat();
     let text = String::from_utf8_lossy(&text);
     let compiled = text.split_once("at -O3 ").map_or("", |(_, after)| after);
-    assert!(compiled.starts_with("ended"), "the replay was not run, or not to its end: {text}");
+    if !compiled.starts_with("ended") {
+        return Seen { caught: false, how: format!(" | not run, or not to its end: {text}") };
+    }
     let found = compiled.split_once("found \"").map_or("", |(_, found)| found.split("\\n").next().unwrap_or_default());
     Seen {
         caught: !compiled.starts_with("ended and wrote what is expected"),
