@@ -1,13 +1,13 @@
 #!/bin/sh
 # Builds the benchmark, counts instructions, times where times mean something, and prints the tables of docs/BENCHMARKS.md.
-# LIBDOOR, LTO: as in bench/build.sh. RUSSH_TEXT: the folder of the Rust's text; CAPTURES: real first packets. Both default
-# to folders beside the repository.
+# LIBDOOR, LTO: as in bench/build.sh. RUSSH_TEXT: the folder of the Rust's text; CAPTURES: real first packets. They
+# default to ../shared/docs/src beside the repository and to crates/peers/data.
 #
 # Instructions of a call are those of a run with 2N calls less those of a run with N, by N, so that whatever else a run does
 # falls out: by callgrind on an x86-64 machine, by a plugin of the emulator on another.
 set -eu
 bench=$(cd "$(dirname "$0")" && pwd)
-captures=${CAPTURES:-$bench/../../shared/captures}
+captures=${CAPTURES:-$bench/../crates/peers/data}
 calls=100
 if [ ! -f "$captures/INDEX.tsv" ]; then
     echo "bench: no INDEX.tsv in '$captures': name the folder of the captures by CAPTURES" >&2

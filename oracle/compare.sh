@@ -5,8 +5,8 @@
 #   oracle/compare.sh long          the long run: N is 520,000, over 10 million cases in all
 #   oracle/compare.sh N             N random KEXINITs of each family, three times as many of what is shorter
 #   oracle/compare.sh model [N]     the model with the oracle alone, on any machine and without the library
-# LIBDOOR: the library (target/staticlib/libdoor.a where none is given); RUSSH_TEXT: the folder of the Rust's text, by
-# default the one beside the repository; CAPTURES: real first packets, by default those of crates/peers.
+# LIBDOOR: the library (target/staticlib/libdoor.a where none is given); RUSSH_TEXT: the folder of the Rust's text,
+# by default ../shared/docs/src beside the repository; CAPTURES: real first packets, by default crates/peers/data.
 set -eu
 here=$(cd "$(dirname "$0")" && pwd)
 . "$here/machine.sh"

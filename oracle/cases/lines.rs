@@ -3,8 +3,8 @@
 use crate::{Answer, Case};
 use plain::{ChannelType, Counters, Read, Side, Tables, Tcp};
 
-/// Bytes between quotes: printable ASCII as it stands; space, `"`, `\`, `*` and any other byte as `\hh`; 16 or more of one byte
-/// as `\hh*count.`
+/// Bytes between quotes: printable ASCII as it stands; space, `"`, `\`, `*` and any other byte as `\hh`; 16 or more of one
+/// byte as `\hh*count.`
 pub fn quoted(bytes: &[u8]) -> String {
     let mut text = String::from("\"");
     for run in bytes.chunk_by(|a, b| a == b) {

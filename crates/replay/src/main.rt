@@ -1,5 +1,5 @@
-// Replays recorded answers of the Rust (oracle/README.md): each line's input is put to our code, and what it answers must be
-// what the line says. The list is the file that the first argument names; what is written is held to the file stdout.
+// Replays recorded answers of the Rust (oracle/README.md): each line's input is put to our code, and what it answers must
+// be what the line says. The list is the file that the first argument names; what is written is held to the file stdout.
 mod answers;
 mod ask;
 mod reader;

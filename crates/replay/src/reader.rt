@@ -1,5 +1,5 @@
-// The words of a recorded line (oracle/README.md, "A recorded line"), read by a value that moves: how far it is in the line,
-// and how much of the lent space the bytes that were read take.
+// The words of a recorded line (oracle/README.md, "A recorded line"), read by a value that moves: how far it is in the
+// line, and how much of the lent space the bytes that were read take.
 ghost use Prim.Native.Nat.{_-_, _≤_, _<_};
 ghost use mathlib.Core.Path.{_≡_};
 ghost use lib.ListN.{length};

@@ -117,7 +117,9 @@ fn compared(s: &Setting) -> Seen {
         command.arg(&program);
     }
     let run = command.args([&s.n, &s.captures]).arg("first").output().expect("the comparison runs");
-    assert!(matches!(run.status.code(), Some(0 | 1)), "the comparison broke off: {run:?}");
+    if !matches!(run.status.code(), Some(0 | 1)) {
+        return Seen { caught: false, how: format!(" | broke off: {}", String::from_utf8_lossy(&run.stderr)) };
+    }
     let caught = String::from_utf8_lossy(&run.stdout).lines().any(|l| l.starts_with("disagreement"));
     Seen { caught, how: disagreement(&run) }
 }
