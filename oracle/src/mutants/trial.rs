@@ -117,7 +117,9 @@ fn compared(s: &Setting) -> Seen {
         command.arg(&program);
     }
     let run = command.args([&s.n, &s.captures]).arg("first").output().expect("the comparison runs");
-    assert!(matches!(run.status.code(), Some(0 | 1)), "the comparison broke off: {run:?}");
+    if !matches!(run.status.code(), Some(0 | 1)) {
+        return Seen { caught: false, how: format!(" | broke off: {}", String::from_utf8_lossy(&run.stderr)) };
+    }
     let caught = String::from_utf8_lossy(&run.stdout).lines().any(|l| l.starts_with("disagreement"));
     Seen { caught, how: disagreement(&run) }
 }
@@ -132,19 +134,22 @@ fn disagreement(run: &Output) -> String {
     format!(" | {function} | {}", said.join("; "))
 }
 
-/// What the program writes is held to its file stdout, compiled at -O0 and at -O3; the run with the compiler's assumptions
-/// checked may take longer than `rt try` waits.
+/// What the program writes is held to its file stdout, compiled as the library is, at -O3. The other ways in which `rt try`
+/// compiles it may take longer than it waits, and say nothing here.
 fn replayed(work: &Path) -> Seen {
     apart(work);
     let run = Command::new("rt").args(["try", "replay"]).current_dir(work).output().expect("rt runs");
     let text = [&run.stdout[..], &run.stderr[..]].concat();
     let text = String::from_utf8_lossy(&text);
-    let ended = |level: &str, how: &str| text.lines().any(|l| l.contains(level) && l.ends_with(how));
-    let (fine, other) = ("ended and wrote what is expected", "ended, but did not write what is expected");
-    let all = |how| ["at -O0", "at -O3"].iter().all(|level| ended(level, how));
-    assert!(all(fine) || all(other), "the replay was not run: {text}");
-    let found = text.split_once("found \"").map_or("", |(_, found)| found.split("\\n").next().unwrap_or_default());
-    Seen { caught: all(other), how: format!(" | {}", found.chars().take(90).collect::<String>()) }
+    let compiled = text.split_once("at -O3 ").map_or("", |(_, after)| after);
+    if !compiled.starts_with("ended") {
+        return Seen { caught: false, how: format!(" | not run, or not to its end: {text}") };
+    }
+    let found = compiled.split_once("found \"").map_or("", |(_, found)| found.split("\\n").next().unwrap_or_default());
+    Seen {
+        caught: !compiled.starts_with("ended and wrote what is expected"),
+        how: format!(" | {}", found.replace("\\\"", "\"").replace("\\\\", "\\").chars().take(90).collect::<String>()),
+    }
 }
 
 fn apart(work: &Path) {
