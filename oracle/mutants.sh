@@ -1,9 +1,10 @@
 #!/bin/sh
 # What the comparison is worth: each wrong thing of the lists in mutants/ must be seen.
 #   oracle/mutants.sh                    the three below, one after the other
-#   oracle/mutants.sh text [N]           the Rust's text changed, against library and model, by the short run
-#   oracle/mutants.sh code               our code changed, unproved, over the recorded answers, by 'rt try replay'
-#   oracle/mutants.sh definitions [N]    the model changed, against the oracle
+#   oracle/mutants.sh text [FIRST]           the Rust's text changed, against library and model, by the short run
+#   oracle/mutants.sh code [FIRST]           our code changed, unproved, over the recorded answers, by 'rt try replay'
+#   oracle/mutants.sh definitions [FIRST]    the model changed, against the oracle (20,000 of each family)
+# FIRST: from which of the list on, to go on with a run that was broken off.
 # LIBDOOR, RUSSH_TEXT, CAPTURES: as for compare.sh.
 set -eu
 here=$(cd "$(dirname "$0")" && pwd)
@@ -26,4 +27,4 @@ if [ $kind = text ]; then need_library; else unset LIBDOOR; fi
 mkdir -p "$target"
 $host_rustc --edition 2024 -O --crate-name mutants -o "$target/mutants" "$here/src/mutants/main.rs"
 export RUSTC="$rustc" RUNNER="$runner"
-exec "$target/mutants" $kind "$here" "$target" "${2:-$n}" "${CAPTURES:-$here/../crates/peers/data}"
+exec "$target/mutants" $kind "$here" "$target" $n "${CAPTURES:-$here/../crates/peers/data}" "${2:-1}"
