@@ -10,9 +10,10 @@ use Rattle.choice.specs.declared.Side.{Side}
 use Rattle.choice.specs.declared.Side.the-variants.{Client, Server}
 use Rattle.choice.specs.Choice.{listed, chosen}
 use Rattle.choice.specs.Rows.{rowSpelled}
-use Rattle.preferred.specs.Tables.{Tables, valid, goodList}
-use Rattle.preferred.proofs.ValidLaws.{valid-parts}
-use Rattle.preferred.specs.Own.{member, strictName, other}
+use Rattle.judging.specs.Tables.{Tables, valid, goodList}
+use Rattle.judging.proofs.ValidLaws.{valid-parts}
+use Rattle.filters.specs.Picked.{member}
+use Rattle.preferred.specs.Own.{strictName, other}
 use Rattle.negotiation.specs.Written.{kexList, kexInit}
 use Rattle.negotiation.specs.Read.{strict, readKex}
 use Rattle.agreement.specs.Both.{settling, clientStrict, serverStrict, shared, bothStrict, both}

@@ -8,19 +8,20 @@ use lib.Dec.{ltb, eqb, lit<}
 use lib.ListN.{length}
 use borrow.Author.Tests.{eqb-true, ltb-true}
 use Rattle.answer.proofs.Laws.{split, and-left, and-right}
-use Rattle.wire.specs.Names.{every}
+use Rattle.commas.specs.Cut.{every}
 use Rattle.names.specs.Tables.{namesOf, allNames, kexNames}
 use Rattle.names.specs.declared.Kind.the-variants.{Kex}
 use Rattle.choice.specs.declared.Side.{Side}
 use Rattle.choice.specs.declared.Side.the-variants.{Client, Server}
-use Rattle.choice.specs.Choice.{listed, firstShared}
+use Rattle.choice.specs.Choice.{listed, kept, firstShared}
 use Rattle.choice.specs.Rows.{rowSpelled, spelledRows}
-use Rattle.choice.proofs.FirstLaws.{kept as keptNames}
 use Rattle.choice.proofs.ChoiceLaws.{client-kept, server-kept}
-use Rattle.preferred.specs.Tables.{Tables, below, goodList}
-use Rattle.preferred.specs.Own.{member, kept, without, rows, extensions, other, kexWritten, kexChosen}
-use Rattle.preferred.proofs.OwnLaws.{good-below, good-without}
-use Rattle.preferred.proofs.RoomLaws.{member-append}
+use Rattle.judging.specs.Tables.{Tables, below, goodList}
+use Rattle.filters.specs.Picked.{member, without}
+use Rattle.preferred.specs.Own.{rows, extensions, other, kexWritten, kexChosen}
+use Rattle.judging.proofs.ValidLaws.{good-below}
+use Rattle.preferred.proofs.OwnLaws.{good-without}
+use Rattle.filters.proofs.RoomLaws.{member-append}
 use Rattle.negotiation.specs.Written.{kexList}
 use Rattle.agreement.specs.Both.{clientStrict, serverStrict, extensionNames, apart, kexOffer}
 use Rattle.agreement.proofs.NameLaws.{listed-number}
@@ -28,12 +29,13 @@ use Rattle.agreement.proofs.NameLaws.{listed-number}
 abbrev plain : List ℕ → Bool
 plain name = not (listed name extensionNames)
 
-apart-is : (names : List (List ℕ)) → apart names ≡ keptNames plain names
-unfolding apart
+apart-is : (names : List (List ℕ)) → apart names ≡ kept plain names
+unfolding apart kept
 apart-is [] = refl
 apart-is (m ∷ names) = split (listed m extensionNames) (λ e. rw (e, apart-is names)) (λ e. rw (e, apart-is names))
 
-all-kept : (f : List ℕ → Bool) (names : List (List ℕ)) → every f (keptNames f names) ≡ true
+all-kept : (f : List ℕ → Bool) (names : List (List ℕ)) → every f (kept f names) ≡ true
+unfolding kept
 all-kept f [] = refl
 all-kept f (m ∷ names) = split (f m) (λ e. rw (e, e, all-kept f names)) (λ e. rw (e, all-kept f names))
 
@@ -41,12 +43,12 @@ module _ (client server : List (List ℕ)) where
   -- from the server's list, where the client's is without them
   pub apart-server : firstShared (apart client) server ≡ firstShared (apart client) (apart server)
   apart-server =
-      rw (apart-is client, apart-is server) (sym (server-kept plain (keptNames plain client) server (all-kept plain client)))
+      rw (apart-is client, apart-is server) (sym (server-kept plain (kept plain client) server (all-kept plain client)))
 
   -- from the client's, where the server's is without them
   pub apart-client : firstShared client (apart server) ≡ firstShared (apart client) (apart server)
   apart-client =
-      rw (apart-is client, apart-is server) (sym (client-kept plain client (keptNames plain server) (all-kept plain server)))
+      rw (apart-is client, apart-is server) (sym (client-kept plain client (kept plain server) (all-kept plain server)))
 
 -- their numbers
 abbrev extensionNumbers : List ℕ
@@ -57,7 +59,7 @@ unfolding rowSpelled allNames kexNames
 extension-rows = refl
 
 extensions-good : goodList Kex extensionNumbers ≡ true
-unfolding goodList Rattle.preferred.specs.Tables.all below namesOf kexNames
+unfolding goodList Rattle.judging.specs.Tables.all below namesOf kexNames
 extensions-good = refl
 
 extension-number : (n : ℕ) → n < length (namesOf Kex) → listed (rowSpelled (0 + n)) extensionNames ≡ member n extensionNumbers

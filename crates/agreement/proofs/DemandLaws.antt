@@ -5,34 +5,30 @@ use mathlib.Core.List.{List}
 use mathlib.Core.Logic.{_↔_}
 use Prim.Native.Nat.{ℕ}
 use lib.ListN.{length}
-use borrow.Author.Tests.{eq-eqb}
-use Rattle.answer.specs.Answer.{Out, done, _>>=_}
+use Rattle.answer.specs.Answer.{Out}
 use Rattle.answer.proofs.Laws.{not-both}
-use Rattle.preferred.specs.Tables.{Tables, valid}
+use Rattle.judging.specs.Tables.{Tables, valid}
 use Rattle.negotiation.specs.declared.Names.{Names}
-use Rattle.negotiation.specs.Written.{keyList, cipherList, compressionList, kexInit, writeKex}
+use Rattle.negotiation.specs.Written.{keyList, cipherList, compressionList, kexInit}
 use Rattle.negotiation.specs.Read.{readKex}
+use Rattle.negotiation.proofs.KexInitLaws.{write-valid}
 use Rattle.agreement.specs.Both.{kexOffer, both}
 use Rattle.agreement.specs.Ended.{Accepted, Lacks, Ended, bothAccept, bothRefuse, Refuses}
 use Rattle.agreement.specs.Demand.{Ends, Agreed, Demand3}
-use Rattle.preferred.proofs.ValidLaws.{valid-parts}
-use Rattle.agreement.proofs.SharedLaws.{not-both-shared}
+use Rattle.judging.proofs.ValidLaws.{valid-parts}
+use Rattle.choice.proofs.SharedLaws.{not-both-shared}
 use Rattle.agreement.proofs.AgreeLaws.{agree}
 use Rattle.agreement.proofs.EndedLaws.{Came, came-done, came-refused, both-come, not-mac}
 use Rattle.agreement.proofs.ProtectedLaws.{never-unprotected}
 
-pub writes : (t : Tables) (cookie : List ℕ) → valid t ≡ true → length cookie ≡ 16 → writeKex t cookie ≡ done (kexInit t cookie)
-unfolding writeKex _>>=_
-writes t cookie v k = rw (v, eq-eqb (length cookie) 16 k)
-
 -- what is accepted lacks nothing
 accepted-lacks : (tc ts : Tables) (b : Bool) (n : Names) → Accepted tc ts b n → (m : ℕ) → Lacks tc ts m → ⊥
-accepted-lacks tc ts b n a m (Lacks.kex u) = not-both-shared (kexOffer tc) (kexOffer ts) (a .kex) (a .kexFirst) u
-accepted-lacks tc ts b n a m (Lacks.key u) = not-both-shared (keyList tc) (keyList ts) (a .key) (a .keyFirst) u
-accepted-lacks tc ts b n a m (Lacks.cipher u) = not-both-shared (cipherList tc) (cipherList ts) (a .cipher) (a .cipherFirst) u
-accepted-lacks tc ts b n a m (Lacks.mac d f e u) = not-mac tc ts (a .cipher) (a .clientMac) (a .cipherFirst) (a .clientMacOf) d f e u
+accepted-lacks tc ts b n a m (Lacks.kex u) = not-both-shared (kexOffer tc) (kexOffer ts) (a .names .kex) (a .kexFirst) u
+accepted-lacks tc ts b n a m (Lacks.key u) = not-both-shared (keyList tc) (keyList ts) (a .names .key) (a .keyFirst) u
+accepted-lacks tc ts b n a m (Lacks.cipher u) = not-both-shared (cipherList tc) (cipherList ts) (a .names .cipher) (a .cipherFirst) u
+accepted-lacks tc ts b n a m (Lacks.mac d f e u) = not-mac tc ts (a .names .cipher) (a .names .clientMac) (a .cipherFirst) (a .clientMacOf) d f e u
 accepted-lacks tc ts b n a m (Lacks.compression u) =
-    not-both-shared (compressionList tc) (compressionList ts) (a .compression) (a .compressionFirst) u
+    not-both-shared (compressionList tc) (compressionList ts) (a .names .clientCompression) (a .clientCompressionFirst) u
 
 -- so a refusal is exactly that something is lacking
 came-exactly : (tc ts : Tables) (b : Bool) {o : Out Names} → Came tc ts b o → Refuses o ↔ ((n : ℕ) × Lacks tc ts n)
@@ -64,8 +60,8 @@ module _ (tc ts : Tables) (kc ks : List ℕ) (e : Ends tc ts kc ks) (b : Bool) w
       record {
         clientSends = kexInit tc kc;
         serverSends = kexInit ts ks;
-        clientWrites = writes tc kc (e .clientValid) (e .clientCookie16);
-        serverWrites = writes ts ks (e .serverValid) (e .serverCookie16);
+        clientWrites = write-valid tc kc (e .clientValid) (e .clientCookie16);
+        serverWrites = write-valid ts ks (e .serverValid) (e .serverCookie16);
         ended = ended;
         clientExactly = exactly-client;
         serverExactly = exactly-server;

@@ -12,17 +12,17 @@ use Rattle.answer.specs.Answer.{Out, refused, done, refuse, _>>=_}
 use Rattle.answer.proofs.Laws.{split, and-left, and-right}
 use Rattle.text.specs.Same.{same}
 use Rattle.text.proofs.SameLaws.{same-equal}
-use Rattle.choice.specs.Choice.{listed}
-use Rattle.preferred.specs.Tables.{Tables}
+use Rattle.choice.specs.Choice.{listed, First, NoneShared}
+use Rattle.judging.specs.Tables.{Tables}
 use Rattle.negotiation.specs.declared.Names.{Names}
 use Rattle.negotiation.specs.Written.{keyList, cipherList, macList, compressionList}
-use Rattle.negotiation.specs.Read.{needsMac, noMac, settleMac}
+use Rattle.negotiation.specs.Read.{needsMac, noMac, settleMac, Choices}
 use Rattle.agreement.specs.Protected.{protecting}
 use Rattle.agreement.specs.Both.{settling, kexOffer, shared, bothStrict, both}
-use Rattle.agreement.specs.Ended.{First, NoneShared, MacOf, Accepted, Lacks, FirstLacking}
-use Rattle.preferred.proofs.ValidLaws.{Valid}
+use Rattle.agreement.specs.Ended.{MacOf, Accepted, Lacks, FirstLacking}
+use Rattle.judging.proofs.ValidLaws.{Valid}
 use Rattle.agreement.proofs.NumberLaws.{made-of}
-use Rattle.agreement.proofs.SharedLaws.{Judged, nothing, first, judge, first-one, first-client, not-both-shared}
+use Rattle.choice.proofs.SharedLaws.{Judged, nothing, first, judge, first-one, first-client, not-both-shared}
 
 -- a MAC that a protecting side shares is not `none`
 lists-none : (t : Tables) (mac : List ℕ) → protecting t ≡ true → listed mac (macList t) ≡ true → same mac noMac ≡ false
@@ -114,23 +114,38 @@ module _ (tc ts : Tables) (b : Bool) (v : Valid tc) {kex key cipher : List ℕ} 
   macs-come (settles mac e m) (first {name = compression} z) =
       rw e
       (came-done
-      (record {
+      (let names : Choices =
+      record {
         kex = kex;
         key = key;
         cipher = cipher;
         clientMac = mac;
         serverMac = mac;
-        compression = compression;
+        clientCompression = compression;
+        serverCompression = compression;
+      } in
+      let shared = first-client (compressionList tc) (compressionList ts) compression z in
+      record {
+        names = names;
         kexFirst = f;
         keyFirst = g;
         cipherFirst = h;
         clientMacOf = m;
         serverMacOf = m;
-        compressionFirst = z;
+        clientCompressionFirst = z;
+        serverCompressionFirst = z;
         made =
-            made-of tc v kex key cipher mac compression (bothStrict tc ts b) (first-client (kexOffer tc) (kexOffer ts) kex f)
-            (first-client (keyList tc) (keyList ts) key g) (first-client (cipherList tc) (cipherList ts) cipher h)
-            (mac-known m) (first-client (compressionList tc) (compressionList ts) compression z);
+            made-of tc v names
+            (record {
+              kex = first-client (kexOffer tc) (kexOffer ts) kex f;
+              key = first-client (keyList tc) (keyList ts) key g;
+              cipher = first-client (cipherList tc) (cipherList ts) cipher h;
+              clientMac = mac-known m;
+              serverMac = mac-known m;
+              clientCompression = shared;
+              serverCompression = shared;
+            })
+            (bothStrict tc ts b);
       }))
 
 module _ (tc ts : Tables) (b : Bool) (v : Valid tc) (p : (protecting tc || protecting ts) ≡ true) where

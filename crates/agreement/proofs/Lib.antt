@@ -1,8 +1,6 @@
-pub mod WalkLaws
 pub mod SharedLaws
 pub mod NameLaws
 pub mod ProtectedLaws
-pub mod FewLaws
 pub mod WrittenLaws
 pub mod ApartLaws
 pub mod AgreeLaws

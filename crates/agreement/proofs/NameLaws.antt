@@ -16,9 +16,10 @@ use Rattle.names.specs.declared.Kind.{Kind}
 use Rattle.names.proofs.TableLaws.{row-of, number-back}
 use Rattle.choice.specs.Choice.{listed}
 use Rattle.choice.specs.Rows.{rowSpelled, spelledRows}
-use Rattle.preferred.specs.Tables.{below, goodList}
-use Rattle.preferred.specs.Own.{member, rows}
-use Rattle.preferred.proofs.OwnLaws.{good-below}
+use Rattle.judging.specs.Tables.{below, goodList}
+use Rattle.filters.specs.Picked.{member}
+use Rattle.preferred.specs.Own.{rows}
+use Rattle.judging.proofs.ValidLaws.{good-below}
 use Rattle.negotiation.specs.Read.{number}
 
 -- a name of such a list has a number

@@ -16,12 +16,13 @@ use Rattle.choice.specs.declared.Side.{Side}
 use Rattle.choice.specs.declared.Side.the-variants.{Client, Server}
 use Rattle.choice.specs.Choice.{listed}
 use Rattle.choice.specs.Rows.{spelledRows}
-use Rattle.preferred.specs.Tables.{Tables, goodList}
-use Rattle.preferred.specs.Own.{without, rows, extensions, kexChosen, held, certificates, keysOf, keyOf}
+use Rattle.judging.specs.Tables.{Tables, goodList}
+use Rattle.filters.specs.Picked.{without, held, certificates}
+use Rattle.preferred.specs.Own.{rows, extensions, kexChosen, keysOf, keyOf}
 use Rattle.preferred.proofs.OwnLaws.{good-without, good-held, good-certificates}
-use Rattle.preferred.proofs.ValidLaws.{Valid}
+use Rattle.judging.proofs.ValidLaws.{Valid}
 use Rattle.negotiation.specs.Written.{keyList, cipherList, macList, compressionList}
-use Rattle.negotiation.specs.Read.{number, noMac, isCertificate, isSome, keyNumber, settled, orZero}
+use Rattle.negotiation.specs.Read.{number, noMac, isCertificate, isSome, keyNumber, Choices, settled, orZero}
 use Rattle.agreement.specs.Both.{kexOffer}
 use Rattle.agreement.specs.Ended.{MadeOf}
 use Rattle.agreement.proofs.NameLaws.{Known, known, known-number}
@@ -78,24 +79,33 @@ module _ (t : Tables) (v : Valid t) where
       found none e = never (cc)
       found (some n) e = refl
 
-  pub made-of : (kex key cipher mac compression : List ℕ) (isStrict : Bool)
-      → listed kex (kexOffer t) ≡ true → listed key (keyList t) ≡ true → listed cipher (cipherList t) ≡ true
-      → (listed mac (macList t) ≡ true) ⊎ (mac ≡ noMac) → listed compression (compressionList t) ≡ true
-      → MadeOf kex key cipher mac mac compression isStrict (settled kex key cipher mac mac compression compression false isStrict)
+  mac-number : (mac : List ℕ) → (listed mac (macList t) ≡ true) ⊎ (mac ≡ noMac) → numberOf Mac mac ≡ some (number Mac mac)
+  mac-number mac m = ⊎-elim (λ l. numbered Mac mac (known Mac (t .mac) mac (v .mac) l)) (λ e. rw e none-number) m
+
+  compression-number : (name : List ℕ) → listed name (compressionList t) ≡ true → numberOf Compression name ≡ some (number Compression name)
+  compression-number name z = numbered Compression name (known Compression (t .compression) name (v .compression) z)
+
+  -- names of the own lists, or the MAC `none`
+  pub record Own (c : Choices) : Type 0 where
+    pub kex : listed (c .kex) (kexOffer t) ≡ true
+    pub key : listed (c .key) (keyList t) ≡ true
+    pub cipher : listed (c .cipher) (cipherList t) ≡ true
+    pub clientMac : (listed (c .clientMac) (macList t) ≡ true) ⊎ (c .clientMac ≡ noMac)
+    pub serverMac : (listed (c .serverMac) (macList t) ≡ true) ⊎ (c .serverMac ≡ noMac)
+    pub clientCompression : listed (c .clientCompression) (compressionList t) ≡ true
+    pub serverCompression : listed (c .serverCompression) (compressionList t) ≡ true
+
+  pub made-of : (c : Choices) → Own c → (isStrict : Bool) → MadeOf c isStrict (settled c false isStrict)
   unfolding settled
-  made-of kex key cipher mac compression isStrict x k c m z =
-      let macNumber : numberOf Mac mac ≡ some (number Mac mac) =
-      ⊎-elim (λ l. numbered Mac mac (known Mac (t .mac) mac (v .mac) l)) (λ e. rw e none-number) m in
-      let compressionNumber =
-      numbered Compression compression (known Compression (t .compression) compression (v .compression) z) in
+  made-of c own isStrict =
       record {
-        kexNumber = numbered Kex kex (kex-known kex x);
-        keyNumber = key-number key k;
-        cipherNumber = numbered Cipher cipher (known Cipher (t .cipher) cipher (v .cipher) c);
-        clientMacNumber = macNumber;
-        serverMacNumber = macNumber;
-        clientCompressionNumber = compressionNumber;
-        serverCompressionNumber = compressionNumber;
+        kexNumber = numbered Kex (c .kex) (kex-known (c .kex) (own .kex));
+        keyNumber = key-number (c .key) (own .key);
+        cipherNumber = numbered Cipher (c .cipher) (known Cipher (t .cipher) (c .cipher) (v .cipher) (own .cipher));
+        clientMacNumber = mac-number (c .clientMac) (own .clientMac);
+        serverMacNumber = mac-number (c .serverMac) (own .serverMac);
+        clientCompressionNumber = compression-number (c .clientCompression) (own .clientCompression);
+        serverCompressionNumber = compression-number (c .serverCompression) (own .serverCompression);
         ignoreGuessed = refl;
         strictKex = refl;
       }

@@ -2,7 +2,7 @@
 -- a pair's answer. So neither one constant choice nor refusing everything meets the demand. Assumes nothing.
 use mathlib.Core.Path.{_≡_, refl}
 use mathlib.Core.Bool.{Bool, true, false, not, _&&_, _||_}
-use mathlib.Core.List.{List, [], _∷_, map}
+use mathlib.Core.List.{List, [], _∷_, map, flatten}
 use Prim.Native.Nat.{ℕ}
 use lib.ListN.{replicate}
 use Rattle.answer.specs.Answer.{Out, done, refuse, _>>=_}
@@ -11,19 +11,22 @@ use Rattle.put.specs.Written.{word as encoded}
 use Rattle.text.specs.Same.{same, ascii}
 use Rattle.text.specs.Utf8.{utf8, octets, next, rows as utf8Rows}
 use Rattle.wire.specs.Fields.{byte, word, run, string, end}
-use Rattle.wire.specs.Names.{cut, join, standing, judged, judgedList, nameList, every}
+use Rattle.commas.specs.Cut.{cut, join, every}
+use Rattle.namelist.specs.Judged.{standing, judged, judgedList, nameList}
 use Rattle.names.specs.Tables.{namesOf, allNames, kexNames, keyNames, certificateNames, cipherNames, macNames, compressionNames, needMac}
 use Rattle.names.specs.Lookup.{placeFrom, numberOf}
 use Rattle.choice.specs.declared.Side.{Side}
 use Rattle.choice.specs.declared.Side.the-variants.{Client, Server}
-use Rattle.choice.specs.Choice.{first, listed, firstShared, chosen, bothFirst}
+use Rattle.choice.specs.Choice.{first, listed, firstShared, chosen, bothFirst, kept}
 use Rattle.choice.specs.Rows.{rowSpelled}
-use Rattle.preferred.specs.Tables.{Tables, tables, all, below, eachRow, goodList, goodLists, goodRows, goodTables, agrees, consistent, rowsOf, valid}
+use Rattle.judging.specs.Tables.{Tables, tables, all, below, eachKeyRow, goodList, goodLists, goodRowTable, goodTables, agrees, consistent, mayLend, valid}
 use Rattle.preferred.specs.Defaults.{defaults}
-use Rattle.preferred.specs.Own.{member, kept, without, kexWritten, kexChosen, ofKind, held, added, certificates, keysOf}
+use Rattle.filters.specs.Picked.{member, without, ofKind, held, added, certificates}
+use Rattle.preferred.specs.Own.{kexWritten, kexChosen, keysOf}
 use Rattle.negotiation.specs.declared.Names.{Names}
-use Rattle.negotiation.specs.Written.{listField, kexInit}
-use Rattle.negotiation.specs.Read.{offer, number, needsMac, settleMac, strict, isCertificate, keyNumber, settled, readKex}
+use Rattle.negotiation.specs.KexInit.{textField, encoded as encodedFields, offer}
+use Rattle.negotiation.specs.Written.{kexInit}
+use Rattle.negotiation.specs.Read.{number, needsMac, settleMac, strict, isCertificate, keyNumber, settled, readKex}
 use Rattle.agreement.specs.Protected.{protecting}
 use Rattle.agreement.specs.Demand.{Ends}
 
@@ -142,7 +145,7 @@ meets-ends p h =
 
 -- opens every definition on the way from tables to bytes to names
 opened : Unit {0}
-unfolding readKex settled first chosen all below eachRow goodLists goodTables without ofKind held keysOf kexInit listField offer encoded word run string byte end cut join standing judged judgedList nameList utf8 octets next utf8Rows same ascii valid goodList goodRows agrees consistent rowsOf namesOf kexNames keyNames certificateNames cipherNames macNames compressionNames listed firstShared bothFirst rowSpelled allNames member kept kexWritten kexChosen added certificates number numberOf placeFrom needsMac settleMac needMac strict isCertificate keyNumber _>>=_
+unfolding readKex settled first chosen all below eachKeyRow goodLists goodTables without ofKind held keysOf kexInit encodedFields flatten textField offer encoded word run string byte end cut join standing judged judgedList nameList utf8 octets next utf8Rows same ascii valid goodList goodRowTable agrees consistent mayLend namesOf kexNames keyNames certificateNames cipherNames macNames compressionNames listed firstShared bothFirst rowSpelled allNames member kept kexWritten kexChosen added certificates number numberOf placeFrom needsMac settleMac needMac strict isCertificate keyNumber _>>=_
 opened = tt
 
 -- the pairs are such as demand 3 speaks of

@@ -8,23 +8,24 @@ use lib.ListN.{getD}
 use borrow.Author.Tests.{not-true}
 use Rattle.answer.specs.Answer.{done}
 use Rattle.answer.proofs.Laws.{split, and-left, and-right, un-done, never}
+use Rattle.answer.proofs.WalkLaws.{Post, go-on, at-end, of-accepted, passed}
 use Rattle.text.specs.Same.{same}
 use Rattle.text.specs.Literal.{bytes}
 use Rattle.text.proofs.SameLaws.{same-equal, same-differ}
-use Rattle.wire.specs.Names.{every}
+use Rattle.commas.specs.Cut.{every}
 use Rattle.names.specs.Tables.{cipherNames, macNames, namesOf, needMac, builtIn}
 use Rattle.names.specs.Lookup.{numberOf, placeFrom}
 use Rattle.names.specs.declared.Kind.the-variants.{Cipher, Mac}
 use Rattle.names.proofs.PlaceLaws.{every-at}
 use Rattle.choice.specs.Choice.{listed, chosen}
-use Rattle.preferred.specs.Tables.{Tables, valid}
-use Rattle.preferred.proofs.ValidLaws.{Valid, valid-parts}
+use Rattle.judging.specs.Tables.{Tables, valid}
+use Rattle.judging.proofs.ValidLaws.{Valid, valid-parts}
 use Rattle.negotiation.specs.declared.Names.{Names}
 use Rattle.negotiation.specs.Written.{cipherList, macList}
 use Rattle.negotiation.specs.Read.{number, needsMac, hasIntegrity, noMac, settleMac, settled, readKex}
 use Rattle.agreement.specs.Protected.{protecting, Protected}
-use Rattle.agreement.proofs.WalkLaws.{Post, go-on, at-end, of-accepted, passed}
-use Rattle.agreement.proofs.SharedLaws.{chosen-own, settle-some}
+use Rattle.choice.proofs.SharedLaws.{chosen-own}
+use Rattle.agreement.proofs.SharedLaws.{settle-some}
 use Rattle.agreement.proofs.NameLaws.{known, known-number}
 
 -- every cipher but `clear` and `none` needs a MAC or has built-in integrity

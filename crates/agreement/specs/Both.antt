@@ -6,7 +6,7 @@ use Prim.Native.Nat.{ℕ}
 use Rattle.answer.specs.Answer.{Out, done, pick, _>>=_}
 use Rattle.text.specs.Literal.{bytes}
 use Rattle.choice.specs.Choice.{listed, firstShared}
-use Rattle.preferred.specs.Tables.{Tables}
+use Rattle.judging.specs.Tables.{Tables}
 use Rattle.negotiation.specs.declared.Names.{Names}
 use Rattle.negotiation.specs.Written.{kexList, keyList, cipherList, macList, compressionList}
 use Rattle.negotiation.specs.Read.{settle, settleMac, settled}
@@ -29,7 +29,18 @@ settling s isStrict = do
   serverMac ← settleMac cipher (s .mac)
   clientCompression ← settle 14 (s .compression)
   serverCompression ← settle 14 (s .compression)
-  done (settled kex key cipher clientMac serverMac clientCompression serverCompression false isStrict)
+  done
+      (settled
+      (record {
+        kex = kex;
+        key = key;
+        cipher = cipher;
+        clientMac = clientMac;
+        serverMac = serverMac;
+        clientCompression = clientCompression;
+        serverCompression = serverCompression;
+      })
+      false isStrict)
 
 abbrev pub clientStrict : List ℕ
 clientStrict = bytes "kex-strict-c-v00@openssh.com"

@@ -1,32 +1,19 @@
 -- How two ends can end, in the words of demand 3.
 use mathlib.Core.Path.{_≡_}
-use mathlib.Core.Bool.{Bool, true, false, not}
-use mathlib.Core.List.{List, _∷_, _++_}
+use mathlib.Core.Bool.{Bool, true, false}
+use mathlib.Core.List.{List}
 use mathlib.Core.Option.{some}
 use Prim.Native.Nat.{ℕ, _<_}
 use Rattle.answer.specs.declared.Refusal.{Refusal}
 use Rattle.answer.specs.Answer.{Out, refused, done, pick}
-use Rattle.wire.specs.Names.{every}
 use Rattle.names.specs.Lookup.{numberOf}
 use Rattle.names.specs.declared.Kind.the-variants.{Kex, Key, Certificate, Cipher, Mac, Compression}
-use Rattle.choice.specs.Choice.{listed}
-use Rattle.preferred.specs.Tables.{Tables}
+use Rattle.choice.specs.Choice.{First, NoneShared}
+use Rattle.judging.specs.Tables.{Tables}
 use Rattle.negotiation.specs.declared.Names.{Names}
 use Rattle.negotiation.specs.Written.{keyList, cipherList, macList, compressionList}
-use Rattle.negotiation.specs.Read.{needsMac, noMac}
+use Rattle.negotiation.specs.Read.{needsMac, noMac, Choices}
 use Rattle.agreement.specs.Both.{kexOffer, bothStrict}
-
--- "the client's first that the server lists"
-pub record First (client server : List (List ℕ)) (name : List ℕ) : Type 0 where
-  pub before : List (List ℕ)
-  pub after : List (List ℕ)
-  pub stands : client ≡ before ++ name ∷ after
-  pub notBefore : every (λ c. not (listed c server)) before ≡ true
-  pub lists : listed name server ≡ true
-
--- "no shared name"
-abbrev pub NoneShared : List (List ℕ) → List (List ℕ) → Type 0
-NoneShared client server = every (λ name. not (listed name server)) client ≡ true
 
 -- the MAC of a direction: a shared one, or `none` beside a cipher that needs none
 pub data MacOf (client server : List (List ℕ)) (cipher mac : List ℕ) : Type 0 where
@@ -34,32 +21,28 @@ pub data MacOf (client server : List (List ℕ)) (cipher mac : List ℕ) : Type 
   notNeeded : NoneShared client server → needsMac cipher ≡ false → mac ≡ noMac → MacOf client server cipher mac
 
 -- the record of these names: each number is its name's place in the table of its kind
-pub record MadeOf (kex key cipher clientMac serverMac compression : List ℕ) (isStrict : Bool) (n : Names) : Type 0 where
-  pub kexNumber : numberOf Kex kex ≡ some (n .kex .0)
-  pub keyNumber : numberOf (pick (n .flags .«host_key_is_certificate») Certificate Key) key ≡ some (n .key .0)
-  pub cipherNumber : numberOf Cipher cipher ≡ some (n .cipher .0)
-  pub clientMacNumber : numberOf Mac clientMac ≡ some (n .«client_mac» .0)
-  pub serverMacNumber : numberOf Mac serverMac ≡ some (n .«server_mac» .0)
-  pub clientCompressionNumber : numberOf Compression compression ≡ some (n .«client_compression» .0)
-  pub serverCompressionNumber : numberOf Compression compression ≡ some (n .«server_compression» .0)
+pub record MadeOf (c : Choices) (isStrict : Bool) (n : Names) : Type 0 where
+  pub kexNumber : numberOf Kex (c .kex) ≡ some (n .kex .0)
+  pub keyNumber : numberOf (pick (n .flags .«host_key_is_certificate») Certificate Key) (c .key) ≡ some (n .key .0)
+  pub cipherNumber : numberOf Cipher (c .cipher) ≡ some (n .cipher .0)
+  pub clientMacNumber : numberOf Mac (c .clientMac) ≡ some (n .«client_mac» .0)
+  pub serverMacNumber : numberOf Mac (c .serverMac) ≡ some (n .«server_mac» .0)
+  pub clientCompressionNumber : numberOf Compression (c .clientCompression) ≡ some (n .«client_compression» .0)
+  pub serverCompressionNumber : numberOf Compression (c .serverCompression) ≡ some (n .«server_compression» .0)
   pub ignoreGuessed : n .flags .«ignore_guessed» ≡ false
   pub strictKex : n .flags .«strict_kex» ≡ isStrict
 
 -- what is accepted: the names that the rule gives, and the record of them
 pub record Accepted (client server : Tables) (rekey : Bool) (n : Names) : Type 0 where
-  pub kex : List ℕ
-  pub key : List ℕ
-  pub cipher : List ℕ
-  pub clientMac : List ℕ
-  pub serverMac : List ℕ
-  pub compression : List ℕ
-  pub kexFirst : First (kexOffer client) (kexOffer server) kex
-  pub keyFirst : First (keyList client) (keyList server) key
-  pub cipherFirst : First (cipherList client) (cipherList server) cipher
-  pub clientMacOf : MacOf (macList client) (macList server) cipher clientMac
-  pub serverMacOf : MacOf (macList client) (macList server) cipher serverMac
-  pub compressionFirst : First (compressionList client) (compressionList server) compression
-  pub made : MadeOf kex key cipher clientMac serverMac compression (bothStrict client server rekey) n
+  pub names : Choices
+  pub kexFirst : First (kexOffer client) (kexOffer server) (names .kex)
+  pub keyFirst : First (keyList client) (keyList server) (names .key)
+  pub cipherFirst : First (cipherList client) (cipherList server) (names .cipher)
+  pub clientMacOf : MacOf (macList client) (macList server) (names .cipher) (names .clientMac)
+  pub serverMacOf : MacOf (macList client) (macList server) (names .cipher) (names .serverMac)
+  pub clientCompressionFirst : First (compressionList client) (compressionList server) (names .clientCompression)
+  pub serverCompressionFirst : First (compressionList client) (compressionList server) (names .serverCompression)
+  pub made : MadeOf names (bothStrict client server rekey) n
 
 -- "a needed category has no shared name", and its number; a MAC is needed if the chosen cipher needs one
 pub data Lacks (client server : Tables) : ℕ → Type 0 where

@@ -1,5 +1,4 @@
 pub mod Protected
-pub mod Offers
 pub mod Both
 pub mod Ended
 pub mod Demand

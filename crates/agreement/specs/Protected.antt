@@ -7,7 +7,7 @@ use Rattle.names.specs.Tables.{builtIn}
 use Rattle.names.specs.declared.CipherId.{CipherId}
 use Rattle.names.specs.declared.MacId.{MacId}
 use Rattle.choice.specs.Choice.{listed}
-use Rattle.preferred.specs.Tables.{Tables}
+use Rattle.judging.specs.Tables.{Tables}
 use Rattle.negotiation.specs.declared.Names.{Names}
 use Rattle.negotiation.specs.Written.{cipherList, macList}
 

@@ -1,6 +1,4 @@
-pub mod FailureLaws
 pub mod OpenLaws
 pub mod PlaceLaws
 mod RestLaws
 mod StepLaws
-mod WriteLaws

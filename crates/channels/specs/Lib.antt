@@ -1,3 +1,1 @@
 pub mod Open
-pub mod Failure
-pub mod Answers

@@ -11,7 +11,7 @@ use Rattle.answer.specs.Answer.{pick}
 use Rattle.answer.proofs.Laws.{split, and-left, and-right, never}
 use Rattle.text.specs.Same.{same}
 use Rattle.text.proofs.SameLaws.{same-self, same-equal}
-use Rattle.wire.specs.Names.{every}
+use Rattle.commas.specs.Cut.{every}
 use Rattle.names.specs.Tables.{allNames}
 use Rattle.names.proofs.RowLaws.{entry-in}
 use Rattle.names.proofs.ColumnLaws.{flat, starts, lengths, row-name}
@@ -20,35 +20,14 @@ use Rattle.choice.specs.declared.Side.{Side}
 use Rattle.choice.specs.declared.Side.the-variants.{Client, Server}
 use Rattle.choice.specs.declared.Chosen.{Chosen}
 use Rattle.choice.specs.declared.Chosen.the-variants.{Row, Nothing}
-use Rattle.choice.specs.Choice.{first, listed, firstShared, chosen, bothFirst}
+use Rattle.choice.specs.Choice.{first, listed, kept, firstShared, chosen, bothFirst}
 use Rattle.choice.specs.Rows.{offered, rowFor, ownFirst, peerFirst, chosenRow, firstBoth, spellsIn, spellsName, rowSpelled, spelledRows, chose}
-use Rattle.choice.proofs.FirstLaws.{First, kept, first-found, found-first, first-none, none-first, first-among, first-kept, first-map, first-same}
+use Rattle.choice.proofs.FirstLaws.{first-among, first-kept, first-map, first-same}
 
 -- the two ends choose one name
 pub ends-agree : (client server : List (List ℕ)) → chosen Client client server ≡ chosen Server server client
 unfolding chosen
 ends-agree client server = refl
-
-module _ (client server : List (List ℕ)) where
-  -- the choice is the client's first name that the server lists
-  pub shared-is : (n : List ℕ) → firstShared client server ≡ some n → First listed client server n
-  unfolding firstShared
-  shared-is n e = first-found listed server client n e
-
-  -- and whatever is that is the choice
-  pub is-shared : (n : List ℕ) → First listed client server n → firstShared client server ≡ some n
-  unfolding firstShared
-  is-shared n f = found-first listed server client n f
-
-  -- there is no choice only where the server lists no name of the client
-  pub none-shared : firstShared client server ≡ none → every (λ n. not (listed n server)) client ≡ true
-  unfolding firstShared
-  none-shared e = first-none listed server client e
-
-  -- and there is none wherever that is so
-  pub shared-none : every (λ n. not (listed n server)) client ≡ true → firstShared client server ≡ none
-  unfolding firstShared
-  shared-none h = none-first listed server client h
 
 -- what holds of every name of a list holds of each that is listed
 pub every-listed : (f : List ℕ → Bool) (names : List (List ℕ)) (n : List ℕ) → every f names ≡ true → listed n names ≡ true → f n ≡ true
@@ -60,7 +39,7 @@ every-listed f (m ∷ names) n h l =
 
 -- a name that is kept is listed as before
 pub listed-kept : (f : List ℕ → Bool) (names : List (List ℕ)) (n : List ℕ) → f n ≡ true → listed n (kept f names) ≡ listed n names
-unfolding listed
+unfolding listed kept
 listed-kept f [] n h = refl
 listed-kept f (m ∷ names) n h =
     split (same m n) (λ e. let k : f m ≡ true = rw (same-equal m n e) h in rw (k, e))

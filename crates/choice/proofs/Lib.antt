@@ -2,3 +2,4 @@ pub mod PlaceLaws
 pub mod WalkLaws
 pub mod FirstLaws
 pub mod ChoiceLaws
+pub mod SharedLaws

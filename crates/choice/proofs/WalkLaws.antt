@@ -16,11 +16,12 @@ use Rattle.wire.specs.declared.answers.Place.{Place}
 use Rattle.wire.specs.declared.answers.NextName.{NextName}
 use Rattle.wire.specs.declared.answers.NextName.the-variants.{Name, NoMore}
 use Rattle.wire.specs.Fields.{here}
-use Rattle.wire.specs.Names.{cut, nextName}
+use Rattle.commas.specs.Cut.{cut}
+use Rattle.wire.specs.Walk.{nextName}
 use Rattle.wire.specs.Shown.{part}
 use Rattle.wire.specs.Answers.{nextOf}
-use Rattle.wire.proofs.CutLaws.{walk-end}
-use Rattle.wire.proofs.JudgeLaws.{names-left, name-inside, name-less}
+use Rattle.wire.proofs.WalkLaws.{walk-end}
+use Rattle.wire.proofs.WalkLaws.{names-left, name-inside, name-less}
 use Rattle.choice.specs.declared.Side.{Side}
 use Rattle.choice.specs.declared.Side.the-variants.{Client, Server}
 use Rattle.choice.specs.Rows.{chosenRow, offered, rowFor, ownFirst, peerFirst, firstBoth, placeOf, rowAt}

@@ -1,10 +1,12 @@
 -- The choice over any two lists of names (document 01, "Choice"; RFC 4253 section 7.1).
-use mathlib.Core.Bool.{Bool, false, _||_}
-use mathlib.Core.List.{List, [], _∷_}
+use mathlib.Core.Path.{_≡_}
+use mathlib.Core.Bool.{Bool, true, false, not, _||_}
+use mathlib.Core.List.{List, [], _∷_, _++_}
 use mathlib.Core.Option.{Option, some, none}
 use Prim.Native.Nat.{ℕ}
 use Rattle.answer.specs.Answer.{pick}
 use Rattle.text.specs.Same.{same}
+use Rattle.commas.specs.Cut.{every}
 use Rattle.choice.specs.declared.Side.{Side}
 use Rattle.choice.specs.declared.Side.the-variants.{Client, Server}
 
@@ -17,9 +19,26 @@ unfoldable pub listed : List ℕ → List (List ℕ) → Bool
 listed name [] = false
 listed name (m ∷ ms) = same m name || listed name ms
 
+-- those of which a test holds, in order
+unfoldable pub kept : {X : Type 0} → (X → Bool) → List X → List X
+kept f [] = []
+kept f (x ∷ xs) = pick (f x) (x ∷ kept f xs) (kept f xs)
+
 -- "the client's first name that the server lists"
 unfoldable pub firstShared : List (List ℕ) → List (List ℕ) → Option (List ℕ)
 firstShared client server = first listed client server
+
+-- what that is: a name which the server lists, and none of the client's before it
+pub record First (client server : List (List ℕ)) (name : List ℕ) : Type 0 where
+  pub before : List (List ℕ)
+  pub after : List (List ℕ)
+  pub stands : client ≡ before ++ name ∷ after
+  pub notBefore : every (λ c. not (listed c server)) before ≡ true
+  pub lists : listed name server ≡ true
+
+-- "no shared name"
+abbrev pub NoneShared : List (List ℕ) → List (List ℕ) → Type 0
+NoneShared client server = every (λ name. not (listed name server)) client ≡ true
 
 -- at either end, over the own list and the peer's
 unfoldable pub chosen : Side → List (List ℕ) → List (List ℕ) → Option (List ℕ)

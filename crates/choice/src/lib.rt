@@ -6,7 +6,7 @@
 ghost use mathlib.Core.Path.{_≡_};
 ghost use Prim.Native.Nat.{_+_, _≤_};
 ghost use lib.ListN.{length};
-ghost use Rattle.wire.specs.Names.{cut};
+ghost use Rattle.commas.specs.Cut.{cut};
 ghost use Rattle.wire.specs.Shown.{part};
 ghost use Rattle.choice.specs.Rows.{
   spellsIn,

@@ -3,23 +3,24 @@
 use mathlib.Core.Bool.{Bool}
 use mathlib.Core.Path.{_≡_}
 use Prim.Native.Nat.{ℕ}
-use Rattle.answer.specs.Answer.{Out, done}
+use Rattle.answer.specs.Answer.{Out}
 use Rattle.framing.specs.Clear.{Read}
 use Rattle.framing.specs.declared.Counters.{Counters}
 use Rattle.channels.specs.declared.OpenChannelMessage.{OpenChannelMessage}
-use Rattle.channels.specs.declared.ChannelOpenConfirmation.{ChannelOpenConfirmation}
+use Rattle.replies.specs.declared.ChannelOpenConfirmation.{ChannelOpenConfirmation}
 use Rattle.negotiation.specs.declared.Names.{Names}
-use Rattle.negotiation.specs.declared.GotNames.{GotNames}
-use Rattle.negotiation.specs.declared.GotNames.the-variants.{Settled as Accepted}
-use Rattle.negotiation.specs.Read.{gotNames}
-use Rattle.door.specs.declared.Written.{Written}
-use Rattle.door.specs.declared.frame.Frame.{Frame}
-use Rattle.door.specs.declared.frame.Sealed.{Sealed}
-use Rattle.door.specs.declared.kex.Settled.{Settled}
-use Rattle.door.specs.declared.channel.Open.{Open}
-use Rattle.door.specs.declared.channel.Confirmation.{Confirmation}
-use Rattle.door.specs.declared.name.Truth.{Truth}
-use Rattle.door.specs.Numbers.{writtenOf, frameOf, sealedOf, settledOf, openOf, confirmationOf, truthOf}
+use Rattle.shapes.specs.declared.Written.{Written}
+use Rattle.frames.specs.declared.Frame.{Frame}
+use Rattle.frames.specs.declared.Sealed.{Sealed}
+use Rattle.settles.specs.declared.Settled.{Settled}
+use Rattle.openings.specs.declared.Open.{Open}
+use Rattle.openings.specs.declared.Confirmation.{Confirmation}
+use Rattle.kinds.specs.declared.Truth.{Truth}
+use Rattle.shapes.specs.Shapes.{writtenOf}
+use Rattle.frames.specs.Frames.{frameOf, sealedOf}
+use Rattle.settles.specs.Settles.{settledOf}
+use Rattle.openings.specs.Openings.{openOf, confirmationOf}
+use Rattle.kinds.specs.Numbers.{truthOf}
 
 -- of a meaning, so of what it equals
 pub via : {A B : Type 0} (f : A → B) {r : B} (x y : A) → r ≡ f x → x ≡ y → r ≡ f y
@@ -37,16 +38,14 @@ sealed-via = via sealedOf
 pub settled-via : {r : Settled} (x y : Out Names) → r ≡ settledOf x → x ≡ y → r ≡ settledOf y
 settled-via = via settledOf
 
-pub confirmation-via : {r : Confirmation} (x y : Out ChannelOpenConfirmation) → r ≡ confirmationOf x → x ≡ y → r ≡ confirmationOf y
+pub confirmation-via : {r : Confirmation} (x y : Out ChannelOpenConfirmation) → r ≡ confirmationOf x → x ≡ y
+    → r ≡ confirmationOf y
 confirmation-via = via confirmationOf
 
 pub truth-via : {r : Truth} (x y : Out Bool) → r ≡ truthOf x → x ≡ y → r ≡ truthOf y
 truth-via = via truthOf
 
-pub open-via : (n : ℕ) {r : Open} (x y : Out OpenChannelMessage) → r ≡ openOf n x → x ≡ y → r ≡ openOf n y
-open-via n = via (openOf n)
+pub open-via : {r : Open} (x y : Out OpenChannelMessage) → r ≡ openOf x → x ≡ y → r ≡ openOf y
+open-via = via openOf
 
 pub ruleset door-laws = (written-via, frame-via, sealed-via, settled-via, confirmation-via, truth-via, open-via)
-
-pub names-settled : (g : GotNames) (n : Names) → g ≡ Accepted n → settledOf (done n) ≡ settledOf (gotNames g)
-names-settled g n e = rw e

@@ -1,3 +1,1 @@
 mod DoorLaws
-mod OpenLaws
-mod KindLaws

@@ -12,7 +12,7 @@ use Rattle.answer.specs.Answer.{refused, done}
 use Rattle.put.proofs.PutLaws.{sets-append}
 use Rattle.wire.proofs.FieldLaws.{No}
 use Rattle.framing.specs.declared.Counters.{Counters}
-use Rattle.framing.specs.Clear.{mostLength, mostBytes, judgedLength, judgedPadding, counted, paddingLength, paddingOf}
+use Rattle.framing.specs.Clear.{mostLength, mostCount, judgedLength, judgedPadding, counted, paddingLength, paddingOf}
 
 module _ (len : ℕ) where
   pub length-over : (r : Refusal) → mostLength < len → No 4 r → refused r ≡ judgedLength len
@@ -34,14 +34,14 @@ module _ (len : ℕ) where
 pub ruleset judge-laws = (length-over, length-fine, padding-over, padding-fine)
 
 module _ (n q : ℕ) (k : Counters) (moved : q ≡ (k .seqn + 1) % 2 ^ 32) where
-  pub counted-most : mostBytes - k .bytes < n → _≡_ {A = Counters} (record { seqn = q; bytes = mostBytes }) (counted n k)
+  pub counted-most : mostCount - k .bytes < n → _≡_ {A = Counters} (record { seqn = q; bytes = mostCount }) (counted n k)
   unfolding counted
-  counted-most h = let e : min (k .bytes + n) mostBytes ≡ mostBytes = omega arith in rw (e, moved)
+  counted-most h = let e : min (k .bytes + n) mostCount ≡ mostCount = omega arith in rw (e, moved)
 
-  pub counted-sum : k .bytes < 2 ^ 64 → n ≤ mostBytes - k .bytes
+  pub counted-sum : k .bytes < 2 ^ 64 → n ≤ mostCount - k .bytes
       → _≡_ {A = Counters} (record { seqn = q; bytes = k .bytes + n }) (counted n k)
   unfolding counted
-  counted-sum h g = let e : min (k .bytes + n) mostBytes ≡ k .bytes + n = omega arith in rw (e, moved)
+  counted-sum h g = let e : min (k .bytes + n) mostCount ≡ k .bytes + n = omega arith in rw (e, moved)
 
 pub ruleset count-laws = (counted-most, counted-sum, arith)
 

@@ -19,7 +19,7 @@ use Rattle.wire.specs.Answers.{gotWord, checked, whyNotFine}
 use Rattle.framing.specs.declared.Counters.{Counters}
 use Rattle.framing.specs.declared.Packet.{Packet}
 use Rattle.framing.specs.declared.GotPacket.{GotPacket}
-use Rattle.framing.specs.Clear.{need, packet, announced, paddingOf, packetAt, opened, readPacket, judgedLength, judgedPadding, counted}
+use Rattle.framing.specs.Clear.{need, packet, announced, paddingOf, packetAt, wholePacket, readPacket, judgedLength, judgedPadding, counted}
 use Rattle.framing.specs.Answers.{gotPacket}
 
 pub packet-is : (len padding size : ℕ) (k k′ : Counters) → size ≡ len - padding - 1 → k′ ≡ counted size k
@@ -32,12 +32,12 @@ packet-is len padding size k k′ e f = rw (f, e)
 module _ (s : List ℕ) (len padding : ℕ) (k : Counters) (told : padding ≡ paddingOf s len) (j : Checked)
     (judged : checked j ≡ judgedPadding len padding)
   where
-    pub open-stop : (x q : Refusal) → j ≡ NotFine x → q ≡ whyNotFine j → refused q ≡ opened s len k
-    unfolding opened _>>=_
+    pub open-stop : (x q : Refusal) → j ≡ NotFine x → q ≡ whyNotFine j → refused q ≡ wholePacket s len k
+    unfolding wholePacket _>>=_
     open-stop x q e f = rw (← told, ← judged, f, e)
 
-    pub open-whole : (p : Packet) → j ≡ Fine → p ≡ packetAt len padding k → done (packet p) ≡ opened s len k
-    unfolding opened _>>=_
+    pub open-whole : (p : Packet) → j ≡ Fine → p ≡ packetAt len padding k → done (packet p) ≡ wholePacket s len k
+    unfolding wholePacket _>>=_
     open-whole p e f = rw (← told, ← judged, f, e)
 
 pub ruleset open-laws = (open-stop, open-whole)
@@ -80,7 +80,7 @@ module _ (s : List ℕ) (w : GotWord) (told : gotWord s w ≡ word (here s 0))
         unfolding readPacket _>>=_
         read-more f h = rw (le-ltb (length s) 4 (four n c e), announced-is n c e, ← judged, f, lt-ltb (length s) (n + 4) h)
 
-        pub read-whole : (g : GotPacket) → j ≡ Fine → n + 4 ≤ length s → gotPacket g ≡ opened s n k → gotPacket g ≡ readPacket s k
+        pub read-whole : (g : GotPacket) → j ≡ Fine → n + 4 ≤ length s → gotPacket g ≡ wholePacket s n k → gotPacket g ≡ readPacket s k
         unfolding readPacket _>>=_
         read-whole g f h o = rw (le-ltb (length s) 4 (four n c e), announced-is n c e, ← judged, f, le-ltb (length s) (n + 4) h) o
 

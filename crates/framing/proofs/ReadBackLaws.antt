@@ -15,7 +15,7 @@ use Rattle.wire.specs.Shown.{shown}
 use Rattle.wire.proofs.ShowLaws.{inside}
 use Rattle.framing.specs.declared.Counters.{Counters}
 use Rattle.framing.specs.declared.Packet.{Packet}
-use Rattle.framing.specs.Clear.{mostLength, paddingLength, packetLength, judgedLength, judgedPadding, counted, frame, packetOf, packet, announced, paddingOf, packetAt, opened, readPacket}
+use Rattle.framing.specs.Clear.{mostLength, paddingLength, packetLength, judgedLength, judgedPadding, counted, frame, packetOf, packet, announced, paddingOf, packetAt, wholePacket, readPacket}
 use Rattle.framing.specs.Answers.{sealing}
 use Rattle.framing.proofs.WriteLaws.{frame-length, short-written, each-sealing}
 
@@ -52,7 +52,7 @@ module _ (x rest : List ℕ) (short : packetLength (length x) ≤ mostLength) wh
   spans = omega (arith, frame-length x, length-append (frame x) rest)
 
   reads : (k : Counters) → readPacket (frame x ++ rest) k ≡ done (packet (framed (length x) k))
-  unfolding readPacket opened judgedLength judgedPadding _>>=_
+  unfolding readPacket wholePacket judgedLength judgedPadding _>>=_
   reads k =
       let l : 4 ≤ length (frame x ++ rest) = omega (arith, spans) in
       let p : paddingLength (length x) ≤ packetLength (length x) = omega arith in

@@ -14,7 +14,7 @@ use Rattle.framing.specs.declared.Counters.{Counters}
 use Rattle.framing.specs.declared.Packet.{Packet}
 use Rattle.framing.specs.declared.GotPacket.{GotPacket}
 use Rattle.framing.specs.declared.GotPacket.the-variants.{Need, Whole, Refused as NoPacket}
-use Rattle.framing.specs.Clear.{mostLength, Read, need, packet, announced, paddingOf, packetAt, opened, readPacket, judgedLength, judgedPadding}
+use Rattle.framing.specs.Clear.{mostLength, Read, need, packet, announced, paddingOf, packetAt, wholePacket, readPacket, judgedLength, judgedPadding}
 use Rattle.framing.specs.Answers.{gotPacket}
 
 -- The five answers, each with all that leads to it: what holds of each of them holds of whatever is read.
@@ -25,7 +25,7 @@ pub each-answer : (P : Out Read → Type 0) (s : List ℕ) (k : Counters) → (l
     → (announced s ≤ mostLength → announced s + 4 ≤ length s → paddingOf s (announced s) ≤ announced s
     → P (done (packet (packetAt (announced s) (paddingOf s (announced s)) k))))
     → P (readPacket s k)
-unfolding readPacket opened judgedLength judgedPadding _>>=_
+unfolding readPacket wholePacket judgedLength judgedPadding _>>=_
 each-answer P s k few long more over whole =
     split (ltb (length s) 4)
     (λ a. rw a (few (ltb-true (length s) 4 a)))

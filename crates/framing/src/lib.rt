@@ -6,6 +6,8 @@
 ghost use mathlib.Core.Path.{_≡_};
 ghost use Rattle.wire.specs.Answers.{checked};
 ghost use Rattle.framing.specs.Clear.{judgedLength, judgedPadding, counted};
+use answer::PACKET_SIZE;
+use answer::PADDING;
 use answer::Refusal;
 use answer::refuse;
 use wire::answers::Checked;
@@ -51,7 +53,7 @@ fn judge_length(len: usize) -> Checked
     ensures { λ r. ⌜ checked r ≡ judgedLength len ⌝ }
 {
     if MAXIMUM_PACKET_LEN < len {
-        return Checked::Refused(refuse(4));
+        return Checked::Refused(refuse(PACKET_SIZE));
     }
     Checked::Fine
 }
@@ -60,7 +62,7 @@ fn judge_padding(len: usize, padding: usize) -> Checked
     ensures { λ r. ⌜ checked r ≡ judgedPadding len padding ⌝ }
 {
     if len < padding {
-        return Checked::Refused(refuse(7));
+        return Checked::Refused(refuse(PADDING));
     }
     Checked::Fine
 }

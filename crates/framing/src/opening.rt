@@ -4,9 +4,10 @@
 // lent slices and tables of numbers.
 ghost use mathlib.Core.Path.{_≡_};
 ghost use Prim.Native.Nat.{_+_, _-_, _≤_};
+ghost use denote.Ref.{ptr};
 ghost use lib.ListN.{length};
-ghost use Rattle.wire.specs.Shown.{shown, numberOf, bytesOf};
-ghost use Rattle.framing.specs.Clear.{paddingOf, packetAt, opened, readPacket};
+ghost use Rattle.wire.specs.Shown.{shown, refusalOf, bytesOf, startOf};
+ghost use Rattle.framing.specs.Clear.{paddingOf, packetAt, wholePacket, readPacket};
 ghost use Rattle.framing.specs.Answers.{gotPacket};
 use crate::Counters;
 use crate::GotPacket;
@@ -55,7 +56,7 @@ fn packet_at(len: usize, padding: usize, k: Counters) -> Packet
 
 fn open(s: &[u8], len: usize, k: Counters) -> GotPacket
     requires { ⌜ (len + 4 ≤ length (now s)) × (len ≤ 4294967295) ⌝ }
-    ensures { λ r. ⌜ gotPacket r ≡ opened (now (s .entry)) len k ⌝ }
+    ensures { λ r. ⌜ gotPacket r ≡ wholePacket (now (s .entry)) len k ⌝ }
 {
     let padding = padding_of(s, len);
     let j = crate::judge_padding(len, padding);
@@ -86,8 +87,10 @@ pub fn read(s: &[u8], k: Counters) -> GotPacket
 
 // The payload as the part of the slice that it is.
 pub fn payload<'a, 'b>(s: &'a [u8], p: Packet, no: &'b mut u8) -> &'a [u8]
-    ensures number { λ r. ⌜ now (no .exit) ≡ numberOf (shown (now (s .entry)) (p .payload)) ⌝ }
+    ensures number { λ r. ⌜ now (no .exit) ≡ refusalOf (shown (now (s .entry)) (p .payload)) ⌝ }
     ensures part { λ r. ⌜ now r ≡ bytesOf (shown (now (s .entry)) (p .payload)) ⌝ }
+    ensures block { λ r. ⌜ ptr r .0 ≡ ptr (s .entry) .0 ⌝ }
+    ensures place { λ r. ⌜ ptr r .1 ≡ ptr (s .entry) .1 + startOf (p .payload) (shown (now (s .entry)) (p .payload)) ⌝ }
 {
     let place = p.payload;
     wire::show::show(s, place, no)

@@ -11,6 +11,7 @@ ghost use Rattle.framing.specs.Clear.{paddingLength, packetLength, frame
 ghost use Rattle.framing.specs.Answers.{wrote, sealing};
 use crate::Counters;
 use crate::Sealed;
+use answer::NO_ROOM;
 use answer::refuse;
 use wire::answers::Checked;
 
@@ -84,7 +85,7 @@ pub fn write(payload: &[u8], k: Counters, out: &mut [u8]) -> Sealed
         return Sealed::Refused(j.why());
     };
     if out.len() < len + 4 {
-        return Sealed::Refused(refuse(8));
+        return Sealed::Refused(refuse(NO_ROOM));
     }
     seal(payload, padding as u8, len as u32, out);
     Sealed::Total(len + 4, k.count(payload.len()))

@@ -12,7 +12,7 @@ use negotiation::GotNames;
 use negotiation::Names;
 use preferred::defaults;
 use put::Put;
-use say::front;
+use text::front;
 
 // Room for a KEXINIT of the default tables, and for its packet.
 const ROOM: usize = 2048;

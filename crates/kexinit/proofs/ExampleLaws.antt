@@ -2,19 +2,22 @@
 -- client and of a server with one Ed25519 key, whatever its identity. Every byte is spelled out. Assumes nothing.
 use mathlib.Core.Path.{_≡_, refl}
 use mathlib.Core.Bool.{true}
-use mathlib.Core.List.{List, [], _∷_, _++_}
+use mathlib.Core.List.{List, [], _∷_, _++_, flatten}
 use Prim.Native.Nat.{ℕ}
 use borrow.Author.Tests.{eq-eqb}
 use lib.ListN.{length}
 use Rattle.put.specs.Written.{word}
-use Rattle.wire.specs.Names.{join}
+use Rattle.commas.specs.Cut.{join}
 use Rattle.names.specs.Tables.{bytes, namesOf, allNames, kexNames, keyNames, certificateNames, cipherNames, macNames, compressionNames}
 use Rattle.choice.specs.declared.Side.the-variants.{Client, Server}
 use Rattle.choice.specs.Rows.{rowSpelled}
-use Rattle.preferred.specs.Tables.{Tables, tables, all, below, goodList, goodRows, eachRow, agrees, consistent, goodLists, goodTables, rowsOf, valid}
-use Rattle.preferred.specs.Own.{member, kept, without, held, certificates, keysOf, kexWritten}
-use Rattle.negotiation.specs.Written.{listField, kexInit}
-use Rattle.kexinit.proofs.KexLaws.{kex-length}
+use Rattle.judging.specs.Tables.{Tables, tables, all, below, goodList, goodRowTable, eachKeyRow, agrees, consistent, goodLists, goodTables, mayLend, valid}
+use Rattle.choice.specs.Choice.{kept}
+use Rattle.filters.specs.Picked.{member, without, held, certificates}
+use Rattle.preferred.specs.Own.{keysOf, kexWritten}
+use Rattle.negotiation.specs.KexInit.{textField, encoded}
+use Rattle.negotiation.specs.Written.{kexInit}
+use Rattle.negotiation.proofs.KexInitLaws.{kex-length}
 
 abbrev client : ℕ → Tables
 client cipher = tables Client (1 ∷ []) (0 ∷ []) [] (cipher ∷ []) (4 ∷ []) (0 ∷ []) [] [] [] []
@@ -50,7 +53,7 @@ pub record Examples : Type 0 where
   pub serverAes128Ctr : (id : ℕ) → Writes (server id 2) 10 (bytes "aes128-ctr") 144
 
 pub examples : Examples
-unfolding valid goodLists goodTables goodList goodRows eachRow agrees consistent below all rowsOf namesOf kexNames keyNames certificateNames cipherNames macNames compressionNames allNames kexInit kexWritten without kept member keysOf certificates held rowSpelled listField join word
+unfolding valid goodLists goodTables goodList goodRowTable eachKeyRow agrees consistent below all mayLend namesOf kexNames keyNames certificateNames cipherNames macNames compressionNames allNames kexInit kexWritten without kept member keysOf certificates held rowSpelled encoded flatten textField join word
 examples =
     record {
       clientChacha20 = record { right = refl; exactly = λ cookie. refl; size = kex-length (client 10) };

@@ -1,4 +1,4 @@
-pub mod RunLaws
+pub mod RoomLaws
 pub mod TableLaws
 pub mod KexLaws
 pub mod WrittenLaws

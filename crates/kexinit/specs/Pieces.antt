@@ -5,21 +5,13 @@ use Prim.Native.Nat.{ℕ, _+_, _*_}
 use lib.Dec.{ltb}
 use lib.ListN.{length}
 use Rattle.answer.specs.Answer.{Out, done, refuse, pick}
-use Rattle.put.specs.Written.{written, buffer, word}
+use Rattle.put.specs.Written.{word}
+use Rattle.put.specs.Runs.{ended, filled}
 use Rattle.lists.specs.Lists.{listBy}
-use Rattle.lists.specs.Texts.{lengthBy, nextOr}
-use Rattle.preferred.specs.declared.RowList.{RowList}
+use Rattle.lists.specs.Texts.{lengthBy}
+use Rattle.filters.specs.declared.RowList.{RowList}
 use Rattle.preferred.specs.declared.Own.{Own}
-use Rattle.preferred.specs.Made.{shown}
-
--- puts in a row: where the last one ended, and what the buffer then holds
-unfoldable pub ended : List ℕ → ℕ → List (Out (List ℕ)) → ℕ
-ended out at [] = at
-ended out at (w ∷ ws) = ended (buffer out at w) (nextOr (written out at w) at) ws
-
-unfoldable pub filled : List ℕ → ℕ → List (Out (List ℕ)) → List ℕ
-filled out at [] = out
-filled out at (w ∷ ws) = filled (buffer out at w) (nextOr (written out at w) at) ws
+use Rattle.filters.specs.Made.{shown}
 
 -- two empty language lists, byte 0, uint32 0
 unfoldable pub ending : List (Out (List ℕ))
@@ -29,12 +21,15 @@ module _ (name : ℕ → Out (List ℕ)) where
   abbrev pub listOf : RowList → Out (List ℕ)
   listOf l = listBy name (shown l)
 
-  -- 20, cookie, kex, key
-  unfoldable pub head : RowList → RowList → List ℕ → List (Out (List ℕ))
-  head kex key cookie = done (20 ∷ []) ∷ done cookie ∷ listOf kex ∷ listOf key ∷ []
+  unfoldable pub once : RowList → List (Out (List ℕ))
+  once l = listOf l ∷ []
 
   unfoldable pub twice : RowList → List (Out (List ℕ))
-  twice l = listOf l ∷ listOf l ∷ []
+  twice l = once l ++ once l
+
+  -- 20, cookie, kex, key
+  unfoldable pub head : RowList → RowList → List ℕ → List (Out (List ℕ))
+  head kex key cookie = done (20 ∷ []) ∷ done cookie ∷ (once kex ++ once key)
 
   unfoldable pub pieces : Own → List ℕ → List (Out (List ℕ))
   pieces own cookie =

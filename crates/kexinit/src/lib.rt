@@ -3,28 +3,29 @@
 // Copyright 2016 Pierre-Étienne Meunier, licensed under the Apache License, Version 2.0 (NOTICE); changed: rewritten for
 // lent slices and tables of numbers.
 ghost use mathlib.Core.Path.{_≡_};
-ghost use lib.ListN.{take};
 ghost use Rattle.put.specs.Written.{written, buffer, put};
+ghost use Rattle.put.specs.Runs.{ended, filled};
 ghost use Rattle.names.specs.Spelled.{rowName};
 ghost use Rattle.lists.specs.Texts.{lengthBy};
-ghost use Rattle.preferred.specs.Tables.{tables};
-ghost use Rattle.preferred.specs.Made.{shown};
+ghost use Rattle.filters.specs.Made.{shown};
 ghost use Rattle.negotiation.specs.Written.{writeKex};
-ghost use Rattle.kexinit.specs.Pieces.{ended, filled, listOf, head, twice, ending, pieces, size, answered, left};
+ghost use Rattle.kexinit.specs.Pieces.{once, head, twice, ending, pieces, size, answered, left};
+use answer::BAD_TABLE;
+use answer::NO_ROOM;
 use answer::refuse;
 use choice::Side;
-use lists::after;
+use filters::RowList;
 use lists::put_rows;
 use lists::rows_length;
-use names::OUTSIDE;
 use names::tables;
 use preferred::Own;
-use preferred::RowList;
 use preferred::own_lists;
 use put::Put;
+use put::after;
 use put::put_bytes;
 use put::put_u8;
 use put::put_u32;
+use text::front;
 
 // msg::KEXINIT
 const KEXINIT: u8 = 20;
@@ -33,17 +34,6 @@ const COOKIE: usize = 16;
 
 // All but the names: the message number, the cookie, ten lengths, the byte and the uint32 at the end.
 const FIXED: usize = 62;
-
-const NO_ROOM: u8 = 8;
-
-fn front(rows: &[u8], len: usize) -> &[u8]
-    ensures { λ r. ⌜ now r ≡ take len (now (rows .entry)) ⌝ }
-{
-    if len <= rows.len() {
-        return &rows[..len];
-    }
-    rows
-}
 
 fn length_of(spellings: &[u8], starts: &[u16], lengths: &[u8], list: RowList) -> usize
     ensures { λ r. ⌜ r ≡ lengthBy (rowName (now (spellings .entry)) (now (starts .entry)) (now (lengths .entry))) (shown list) ⌝ }
@@ -71,13 +61,16 @@ fn put_list(
     list: RowList,
     out: &mut [u8],
     at: usize,
-) -> Put
-    ensures answer { λ r. ⌜ put r ≡ written (now (out .entry)) at (listOf (rowName (now (spellings .entry)) (now (starts .entry)) (now (lengths .entry))) list) ⌝ }
-    ensures bytes { λ r. ⌜ now (out .exit) ≡ buffer (now (out .entry)) at (listOf (rowName (now (spellings .entry)) (now (starts .entry)) (now (lengths .entry))) list) ⌝ }
+) -> usize
+    ensures next { λ r. ⌜ r ≡ ended (now (out .entry)) at (once (rowName (now (spellings .entry)) (now (starts .entry)) (now (lengths .entry))) list) ⌝ }
+    ensures bytes { λ r. ⌜ now (out .exit) ≡ filled (now (out .entry)) at (once (rowName (now (spellings .entry)) (now (starts .entry)) (now (lengths .entry))) list) ⌝ }
 {
     let rows = list.rows;
     let len = list.len;
-    put_rows(spellings, starts, lengths, front(&rows, len), out, at)
+    after(
+        put_rows(spellings, starts, lengths, front(&rows, len), out, at),
+        at,
+    )
 }
 
 fn put_head(
@@ -94,8 +87,8 @@ fn put_head(
 {
     let p = after(put_u8(out, 0, KEXINIT), 0);
     let q = after(put_bytes(out, p, cookie), p);
-    let s = after(put_list(spellings, starts, lengths, kex, out, q), q);
-    after(put_list(spellings, starts, lengths, key, out, s), s)
+    let s = put_list(spellings, starts, lengths, kex, out, q);
+    put_list(spellings, starts, lengths, key, out, s)
 }
 
 // Client to server and server to client.
@@ -110,8 +103,8 @@ fn put_twice(
     ensures next { λ r. ⌜ r ≡ ended (now (out .entry)) at (twice (rowName (now (spellings .entry)) (now (starts .entry)) (now (lengths .entry))) list) ⌝ }
     ensures bytes { λ r. ⌜ now (out .exit) ≡ filled (now (out .entry)) at (twice (rowName (now (spellings .entry)) (now (starts .entry)) (now (lengths .entry))) list) ⌝ }
 {
-    let p = after(put_list(spellings, starts, lengths, list, out, at), at);
-    after(put_list(spellings, starts, lengths, list, out, p), p)
+    let p = put_list(spellings, starts, lengths, list, out, at);
+    put_list(spellings, starts, lengths, list, out, p)
 }
 
 fn put_ending(out: &mut [u8], at: usize) -> usize
@@ -181,10 +174,34 @@ pub fn write_kex(
     cookie: &[u8],
     out: &mut [u8],
 ) -> Put
-    ensures answer { λ r. ⌜ put r ≡ written (now (out .entry)) 0 (writeKex (tables side (now (kex .entry)) (now (key .entry)) (now (certificate .entry)) (now (cipher .entry)) (now (mac .entry)) (now (compression .entry)) (now («key_kinds» .entry)) (now («key_ids» .entry)) (now («cert_kinds» .entry)) (now («cert_ids» .entry))) (now (cookie .entry))) ⌝ }
-    ensures bytes { λ r. ⌜ now (out .exit) ≡ buffer (now (out .entry)) 0 (writeKex (tables side (now (kex .entry)) (now (key .entry)) (now (certificate .entry)) (now (cipher .entry)) (now (mac .entry)) (now (compression .entry)) (now («key_kinds» .entry)) (now («key_ids» .entry)) (now («cert_kinds» .entry)) (now («cert_ids» .entry))) (now (cookie .entry))) ⌝ }
+    ensures answer { λ r. ⌜ put r ≡ written (now (out .entry)) 0 (writeKex (record {
+      side = side;
+      kex = now (kex .entry);
+      key = now (key .entry);
+      certificate = now (certificate .entry);
+      cipher = now (cipher .entry);
+      mac = now (mac .entry);
+      compression = now (compression .entry);
+      keyKinds = now («key_kinds» .entry);
+      keyIds = now («key_ids» .entry);
+      certKinds = now («cert_kinds» .entry);
+      certIds = now («cert_ids» .entry);
+    }) (now (cookie .entry))) ⌝ }
+    ensures bytes { λ r. ⌜ now (out .exit) ≡ buffer (now (out .entry)) 0 (writeKex (record {
+      side = side;
+      kex = now (kex .entry);
+      key = now (key .entry);
+      certificate = now (certificate .entry);
+      cipher = now (cipher .entry);
+      mac = now (mac .entry);
+      compression = now (compression .entry);
+      keyKinds = now («key_kinds» .entry);
+      keyIds = now («key_ids» .entry);
+      certKinds = now («cert_kinds» .entry);
+      certIds = now («cert_ids» .entry);
+    }) (now (cookie .entry))) ⌝ }
 {
-    let own = own_lists(
+    let lists = own_lists(
         side,
         kex,
         key,
@@ -197,17 +214,17 @@ pub fn write_kex(
         cert_kinds,
         cert_ids,
     );
-    if own.number != 0 {
-        return Put::Refused(refuse(own.number));
+    if lists.number != 0 {
+        return Put::Refused(refuse(lists.number));
     }
     if cookie.len() != COOKIE {
-        return Put::Refused(refuse(OUTSIDE));
+        return Put::Refused(refuse(BAD_TABLE));
     }
     put_own(
         &tables::SPELLINGS,
         &tables::STARTS,
         &tables::LENGTHS,
-        own,
+        lists,
         cookie,
         out,
     )

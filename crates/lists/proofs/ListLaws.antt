@@ -12,10 +12,10 @@ use Rattle.answer.specs.Answer.{Out, refused, done, refuse, _>>=_}
 use Rattle.answer.proofs.Laws.{split}
 use Rattle.put.specs.Written.{string, word}
 use Rattle.put.proofs.PutLaws.{string-short, string-long, word-length}
-use Rattle.wire.specs.Names.{join}
+use Rattle.commas.specs.Cut.{join}
 use Rattle.names.specs.Tables.{allNames}
 use Rattle.names.specs.Spelled.{there, rowName, nameAt}
-use Rattle.names.proofs.WriterLaws.{Puts, full-put, stored-put}
+use Rattle.put.proofs.WriterLaws.{Puts, full-put, stored-put}
 use Rattle.names.proofs.RowLaws.{shown, row-outside}
 use Rattle.names.proofs.ColumnLaws.{flat, starts, lengths, row-name}
 use Rattle.lists.specs.Lists.{namesBy, listBy}

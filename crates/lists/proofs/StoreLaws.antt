@@ -8,10 +8,11 @@ use lib.Seq.{sets, length-sets}
 use Rattle.answer.specs.Answer.{Out, done}
 use Rattle.put.specs.Written.{written, buffer, word}
 use Rattle.put.proofs.PutLaws.{sets-append, written-fits, buffer-fits, word-length}
-use Rattle.wire.specs.Names.{join}
+use Rattle.commas.specs.Cut.{join}
 use Rattle.wire.specs.Shown.{bytesOf}
 use Rattle.names.specs.Spelled.{rowName}
-use Rattle.lists.specs.Texts.{texts, part, nextOr}
+use Rattle.lists.specs.Texts.{texts, nameAndComma}
+use Rattle.put.specs.Runs.{nextOr}
 use Rattle.lists.proofs.WalkLaws.{next-row}
 
 -- a put that has room
@@ -54,27 +55,27 @@ left-none whole at x out p left = (omega (arith, left .end), sym (left .bytes))
 
 -- a name and its comma
 module _ (spellings starts lengths : List ℕ) (row k : ℕ) (same : k ≡ row) (out x : List ℕ) (at : ℕ)
-    (fits : at + length (part (rowName spellings starts lengths row)) ≤ length out)
+    (fits : at + length (nameAndComma (rowName spellings starts lengths row)) ≤ length out)
     (spelt : x ≡ bytesOf (rowName spellings starts lengths k)) where
-  cut-part : part (rowName spellings starts lengths row) ≡ x ++ 44 ∷ []
-  unfolding part
+  cut-part : nameAndComma (rowName spellings starts lengths row) ≡ x ++ 44 ∷ []
+  unfolding nameAndComma
   cut-part = rw (spelt, same)
 
-  before : Left out at (part (rowName spellings starts lengths row)) out at (part (rowName spellings starts lengths row))
-  before = left-all out at (part (rowName spellings starts lengths row)) fits
+  before : Left out at (nameAndComma (rowName spellings starts lengths row)) out at (nameAndComma (rowName spellings starts lengths row))
+  before = left-all out at (nameAndComma (rowName spellings starts lengths row)) fits
 
   pub part-name : at + length x ≤ length out
   part-name = piece-room _ _ _ _ _ _ before x (44 ∷ []) cut-part
 
   module _ (out₁ : List ℕ) (p : ℕ) (e : p ≡ at + length x) (f : out₁ ≡ sets out at x) where
-    between : Left out at (part (rowName spellings starts lengths row)) out₁ p (44 ∷ [])
+    between : Left out at (nameAndComma (rowName spellings starts lengths row)) out₁ p (44 ∷ [])
     between = left-after _ _ _ _ _ _ before x (44 ∷ []) cut-part out₁ p e f
 
     pub part-comma : p + 1 ≤ length out₁
     part-comma = between .room
 
     pub part-whole : (out₂ : List ℕ) (r : ℕ) → (r ≡ p + 1) × (out₂ ≡ sets out₁ p (44 ∷ []))
-        → (r ≡ at + length (part (rowName spellings starts lengths row))) × (out₂ ≡ sets out at (part (rowName spellings starts lengths row)))
+        → (r ≡ at + length (nameAndComma (rowName spellings starts lengths row))) × (out₂ ≡ sets out at (nameAndComma (rowName spellings starts lengths row)))
     part-whole out₂ r h = left-none _ _ _ _ _ (left-after _ _ _ _ _ _ between (44 ∷ []) [] refl out₂ r (h .0) (h .1))
 
 pub ruleset part-laws = (part-name, part-comma, part-whole)
@@ -86,8 +87,8 @@ module _ (spellings starts lengths rows : List ℕ) (i : ℕ) where
   abbrev from : ℕ → List ℕ
   from k = join (texts name (drop k rows))
 
-  pub join-more : i + 1 < length rows → from i ≡ part (name (getD rows i 0)) ++ from (i + 1)
-  unfolding texts join part
+  pub join-more : i + 1 < length rows → from i ≡ nameAndComma (name (getD rows i 0)) ++ from (i + 1)
+  unfolding texts join nameAndComma
   join-more h =
       let h₀ : i < length rows = omega arith in
       rw (next-row rows i h₀, next-row rows (i + 1) h, append-assoc)
@@ -101,13 +102,13 @@ module _ (spellings starts lengths rows : List ℕ) (i : ℕ) where
 
   -- the list so far
   module _ (whole : List ℕ) (at : ℕ) (out : List ℕ) (p : ℕ) (left : Left whole at (join (texts name rows)) out p (from i)) where
-    pub names-room : i + 1 < length rows → p + length (part (name (getD rows i 0))) ≤ length out
-    names-room h = piece-room _ _ _ _ _ _ left (part (name (getD rows i 0))) (from (i + 1)) (join-more h)
+    pub names-room : i + 1 < length rows → p + length (nameAndComma (name (getD rows i 0))) ≤ length out
+    names-room h = piece-room _ _ _ _ _ _ left (nameAndComma (name (getD rows i 0))) (from (i + 1)) (join-more h)
 
     pub names-on : i + 1 < length rows → (out′ : List ℕ) (p′ : ℕ)
-        → (p′ ≡ p + length (part (name (getD rows i 0)))) × (out′ ≡ sets out p (part (name (getD rows i 0))))
+        → (p′ ≡ p + length (nameAndComma (name (getD rows i 0)))) × (out′ ≡ sets out p (nameAndComma (name (getD rows i 0))))
         → Left whole at (join (texts name rows)) out′ p′ (from (i + 1))
-    names-on h out′ p′ e = left-after _ _ _ _ _ _ left (part (name (getD rows i 0))) (from (i + 1)) (join-more h) out′ p′ (e .0) (e .1)
+    names-on h out′ p′ e = left-after _ _ _ _ _ _ left (nameAndComma (name (getD rows i 0))) (from (i + 1)) (join-more h) out′ p′ (e .0) (e .1)
 
     -- the last name
     module _ (h : i + 1 ≡ length rows) (k n : ℕ) (read : n ≡ getD rows k 0) (same : k ≡ i) (x : List ℕ) (spelt : x ≡ bytesOf (name n)) where

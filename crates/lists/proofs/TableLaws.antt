@@ -8,8 +8,8 @@ use lib.Dec.{ltb}
 use lib.ListN.{length, getD}
 use Rattle.answer.specs.Answer.{Out, refused, done, _>>=_}
 use Rattle.answer.proofs.Laws.{split, un-done}
-use Rattle.wire.specs.Names.{cut, join, every, nameable}
-use Rattle.wire.proofs.BackLaws.{names-back}
+use Rattle.commas.specs.Cut.{cut, join, every, nameable}
+use Rattle.commas.proofs.CutLaws.{names-back}
 use Rattle.names.specs.Tables.{allNames}
 use Rattle.names.specs.Spelled.{nameAt}
 use Rattle.names.proofs.RowLaws.{entry-in, entry-out}

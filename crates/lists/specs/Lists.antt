@@ -3,9 +3,7 @@ use mathlib.Core.List.{List, [], _∷_}
 use Prim.Native.Nat.{ℕ}
 use Rattle.answer.specs.Answer.{Out, done, _>>=_}
 use Rattle.put.specs.Written.{string}
-use Rattle.wire.specs.Names.{join}
-use Rattle.names.specs.Tables.{allNames}
-use Rattle.names.specs.Spelled.{nameAt}
+use Rattle.commas.specs.Cut.{join}
 
 -- the names of a list of numbers, each as `name` has it
 unfoldable pub namesBy : (ℕ → Out (List ℕ)) → List ℕ → Out (List (List ℕ))
@@ -20,7 +18,3 @@ unfoldable pub listBy : (ℕ → Out (List ℕ)) → List ℕ → Out (List ℕ)
 listBy name ns = do
   names ← namesBy name ns
   string (join names)
-
--- of rows of the one table, so that key and certificate names can stand in one list
-abbrev pub nameListOf : List ℕ → Out (List ℕ)
-nameListOf rows = listBy (nameAt allNames) rows

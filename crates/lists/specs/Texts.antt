@@ -3,8 +3,8 @@ use mathlib.Core.Bool.{Bool, true, _&&_}
 use mathlib.Core.List.{List, [], _∷_, _++_, map}
 use Prim.Native.Nat.{ℕ, _+_, min}
 use lib.ListN.{length}
-use Rattle.answer.specs.Answer.{Out, refused, done}
-use Rattle.wire.specs.Names.{join}
+use Rattle.answer.specs.Answer.{Out}
+use Rattle.commas.specs.Cut.{join}
 use Rattle.wire.specs.Shown.{bytesOf}
 use Rattle.names.specs.Spelled.{there}
 
@@ -23,8 +23,8 @@ module _ (name : ℕ → Out (List ℕ)) where
   lengthBy ns = min (length (join (texts ns))) 4294967296
 
 -- a name and the comma after it
-unfoldable pub part : Out (List ℕ) → List ℕ
-part name = bytesOf name ++ 44 ∷ []
+unfoldable pub nameAndComma : Out (List ℕ) → List ℕ
+nameAndComma name = bytesOf name ++ 44 ∷ []
 
 -- One more than the longest list with a comma after each name. Counting stops here, so that no sum wraps.
 abbrev pub most : ℕ
@@ -34,8 +34,3 @@ most = 4294967297
 unfoldable pub sizeFrom : ℕ → List (List ℕ) → ℕ
 sizeFrom t [] = t
 sizeFrom t (x ∷ xs) = sizeFrom (min (t + (length x + 1)) most) xs
-
--- where a put went on, or stayed
-abbrev pub nextOr : Out ℕ → ℕ → ℕ
-nextOr (refused r) at = at
-nextOr (done n) at = n

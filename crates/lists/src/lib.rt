@@ -6,22 +6,19 @@ ghost use Prim.Native.Nat.{_+_, _-_, _≤_, min};
 ghost use lib.ListN.{length};
 ghost use lib.Seq.{sets};
 ghost use Rattle.put.specs.Written.{written, buffer, put, word};
-ghost use Rattle.wire.specs.Names.{join};
+ghost use Rattle.commas.specs.Cut.{join};
 ghost use Rattle.names.specs.Spelled.{rowName};
-ghost use Rattle.lists.specs.Lists.{listBy, nameListOf};
-ghost use Rattle.lists.specs.Texts.{named, texts, part, most, sizeFrom, lengthBy, nextOr};
+ghost use Rattle.lists.specs.Lists.{listBy};
+ghost use Rattle.lists.specs.Texts.{named, texts, nameAndComma, most, sizeFrom, lengthBy};
+use answer::BAD_TABLE;
+use answer::NO_ROOM;
+use answer::TOO_LONG;
 use answer::refuse;
-use names::OUTSIDE;
 use names::inside;
 use names::spelling;
-use names::tables;
 use names::wide;
 use put::Put;
-
-// The numbers of document 01 that a list is refused with, besides.
-const TOO_LONG: u8 = 1;
-
-const NO_ROOM: u8 = 8;
+use put::after;
 
 // One more than the longest list has with a comma after each name. Counting stops here, so that no sum wraps.
 const MOST: usize = 4294967297;
@@ -39,7 +36,8 @@ fn known(spellings: &[u8], starts: &[u16], lengths: &[u8], rows: &[u8]) -> bool
     true
 }
 
-fn counted(sum: usize, n: usize) -> usize
+// A name and its comma more, or as far as is counted.
+fn with_comma(sum: usize, n: usize) -> usize
     ensures { λ r. ⌜ r ≡ min (sum + (n + 1)) most ⌝ }
 {
     if MOST <= sum {
@@ -57,23 +55,13 @@ fn size(spellings: &[u8], starts: &[u16], lengths: &[u8], rows: &[u8]) -> usize
     let mut total = 0;
     let mut i = 0;
     while i < rows.len() {
-        total = counted(
+        total = with_comma(
             total,
             spelling(spellings, starts, lengths, wide(rows[i])).len(),
         );
         i += 1;
     }
     total
-}
-
-// Where the next put goes when one was made at `at`: for a writer that has tested the room for a whole run of puts.
-pub fn after(p: Put, at: usize) -> usize
-    ensures { λ r. ⌜ r ≡ nextOr (put p) at ⌝ }
-{
-    match p {
-        Put::Next(n) => n,
-        Put::Refused(_) => at,
-    }
 }
 
 fn store(out: &mut [u8], at: usize, x: &[u8]) -> usize
@@ -92,9 +80,9 @@ fn store_part(
     out: &mut [u8],
     at: usize,
 ) -> usize
-    requires { ⌜ at + length (part (rowName (now spellings) (now starts) (now lengths) row)) ≤ length (now out) ⌝ }
-    ensures next { λ r. ⌜ r ≡ at + length (part (rowName (now (spellings .entry)) (now (starts .entry)) (now (lengths .entry)) row)) ⌝ }
-    ensures bytes { λ r. ⌜ now (out .exit) ≡ sets (now (out .entry)) at (part (rowName (now (spellings .entry)) (now (starts .entry)) (now (lengths .entry)) row)) ⌝ }
+    requires { ⌜ at + length (nameAndComma (rowName (now spellings) (now starts) (now lengths) row)) ≤ length (now out) ⌝ }
+    ensures next { λ r. ⌜ r ≡ at + length (nameAndComma (rowName (now (spellings .entry)) (now (starts .entry)) (now (lengths .entry)) row)) ⌝ }
+    ensures bytes { λ r. ⌜ now (out .exit) ≡ sets (now (out .entry)) at (nameAndComma (rowName (now (spellings .entry)) (now (starts .entry)) (now (lengths .entry)) row)) ⌝ }
 {
     let p = store(out, at, spelling(spellings, starts, lengths, wide(row)));
     store(out, p, b",")
@@ -174,7 +162,7 @@ pub fn put_rows(
     ensures bytes { λ r. ⌜ now (out .exit) ≡ buffer (now (out .entry)) at (listBy (rowName (now (spellings .entry)) (now (starts .entry)) (now (lengths .entry))) (now (rows .entry))) ⌝ }
 {
     if !known(spellings, starts, lengths, rows) {
-        return Put::Refused(refuse(OUTSIDE));
+        return Put::Refused(refuse(BAD_TABLE));
     }
     let total = size(spellings, starts, lengths, rows);
     if MOST <= total {
@@ -189,19 +177,4 @@ pub fn put_rows(
         return Put::Refused(refuse(NO_ROOM));
     }
     Put::Next(store_list(spellings, starts, lengths, rows, len as u32, out, at))
-}
-
-// The list of rows of the one table, so that key and certificate names can stand in one list.
-pub fn put_name_list(rows: &[u8], out: &mut [u8], at: usize) -> Put
-    ensures answer { λ r. ⌜ put r ≡ written (now (out .entry)) at (nameListOf (now (rows .entry))) ⌝ }
-    ensures bytes { λ r. ⌜ now (out .exit) ≡ buffer (now (out .entry)) at (nameListOf (now (rows .entry))) ⌝ }
-{
-    put_rows(
-        &tables::SPELLINGS,
-        &tables::STARTS,
-        &tables::LENGTHS,
-        rows,
-        out,
-        at,
-    )
 }

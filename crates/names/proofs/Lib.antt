@@ -1,4 +1,3 @@
-pub mod WriterLaws
 pub mod RowLaws
 pub mod ColumnLaws
 pub mod PlaceLaws

@@ -10,7 +10,7 @@ use Rattle.names.specs.declared.Kind.{Kind}
 use Rattle.names.specs.Tables.{namesOf, allNames, firstRow, kexNames, keyNames, certificateNames, cipherNames, macNames, compressionNames}
 use Rattle.names.specs.declared.Row.{Row}
 use Rattle.names.specs.declared.Row.the-variants.{At, Nowhere}
-use Rattle.names.specs.Lookup.{numberOf, placeFrom, rowFrom, onward, row}
+use Rattle.names.specs.Lookup.{numberOf, placeFrom, rowFrom, onward, foundRow}
 use Rattle.names.proofs.ColumnLaws.{flat, starts, lengths, row-place}
 use Rattle.names.proofs.PlaceLaws.{place-from}
 use Rattle.names.proofs.TableLaws.{kind-part, kind-rows, row-count, number-found}
@@ -55,7 +55,7 @@ unnumbered first none h = refl
 unnumbered first (some m) h = cc
 
 -- what the code tells on its way: the row that was found, and the kind's first
-module _ (k : Kind) (name : List ℕ) (r : Row) (told : row r ≡ onward (firstRow k) (numberOf k name)) where
+module _ (k : Kind) (name : List ℕ) (r : Row) (told : foundRow r ≡ onward (firstRow k) (numberOf k name)) where
   pub number-none : r ≡ Nowhere → none ≡ numberOf k name
   number-none e = unnumbered (firstRow k) (numberOf k name) (rw e at told)
 

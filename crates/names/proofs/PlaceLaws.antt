@@ -11,7 +11,7 @@ use lib.ListN.{length, getD}
 use Rattle.answer.proofs.Laws.{split, and-left, and-right}
 use Rattle.text.specs.Same.{same}
 use Rattle.text.proofs.SameLaws.{same-self, same-equal}
-use Rattle.wire.specs.Names.{every}
+use Rattle.commas.specs.Cut.{every}
 use Rattle.names.specs.Lookup.{placeFrom, onward}
 
 -- a test that holds of every name holds at each place

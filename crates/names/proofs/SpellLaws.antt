@@ -9,7 +9,7 @@ use Rattle.answer.specs.Answer.{Out, refused}
 use Rattle.names.specs.declared.Kind.{Kind}
 use Rattle.names.specs.Tables.{namesOf, allNames, firstRow}
 use Rattle.names.specs.Spelled.{rowName, spelled}
-use Rattle.names.proofs.WriterLaws.{Puts, refused-put}
+use Rattle.put.proofs.WriterLaws.{Puts, refused-put}
 use Rattle.names.proofs.RowLaws.{entry-in, entry-out}
 use Rattle.names.proofs.ColumnLaws.{flat, starts, lengths, row-name}
 use Rattle.names.proofs.TableLaws.{kind-rows, row-of, row-count}

@@ -13,7 +13,7 @@ use lib.Seq.{getD-take, getD-drop}
 use borrow.Author.Tests.{leb-true}
 use Rattle.answer.proofs.Laws.{and-left, and-right}
 use Rattle.text.specs.Same.{same, ascii}
-use Rattle.wire.specs.Names.{every, nameable}
+use Rattle.commas.specs.Cut.{every, nameable}
 use Rattle.names.specs.declared.Kind.{Kind}
 use Rattle.names.specs.declared.Kind.the-variants.{Kex, Key, Certificate, Cipher, Mac, Compression}
 use Rattle.names.specs.Tables.{bytes, kexNames, keyNames, certificateNames, cipherNames, macNames, compressionNames, namesOf, allNames, firstRow}

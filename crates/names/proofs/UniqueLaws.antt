@@ -6,7 +6,7 @@ use Rattle.names.specs.declared.Row.{Row}
 use Rattle.names.specs.declared.Row.the-variants.{At, Nowhere}
 use Rattle.names.specs.declared.Flag.{Flag}
 use Rattle.names.specs.declared.Flag.the-variants.{Is, Refused}
-use Rattle.names.specs.Lookup.{found, row}
+use Rattle.names.specs.Lookup.{found, foundRow}
 use Rattle.names.specs.Spelled.{flag}
 
 pub found-unique : (a b : Found) → found a ≡ found b → a ≡ b
@@ -15,7 +15,7 @@ found-unique (Number m) Unknown e = cc
 found-unique Unknown (Number n) e = cc
 found-unique Unknown Unknown e = refl
 
-pub row-unique : (a b : Row) → row a ≡ row b → a ≡ b
+pub row-unique : (a b : Row) → foundRow a ≡ foundRow b → a ≡ b
 row-unique (At m) (At n) e = cc
 row-unique (At m) Nowhere e = cc
 row-unique Nowhere (At n) e = cc

@@ -45,6 +45,6 @@ found (Number n) = some n
 found Unknown = none
 
 -- what a `Row` means
-abbrev pub row : Row → Option ℕ
-row (At n) = some n
-row Nowhere = none
+abbrev pub foundRow : Row → Option ℕ
+foundRow (At n) = some n
+foundRow Nowhere = none

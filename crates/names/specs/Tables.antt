@@ -1,4 +1,5 @@
--- The names of document 01, "Names and their numbers": a name's number is its place in its kind, from 0.
+-- The names of document 01, "Names and their numbers": a name's number is its place in its kind, from 0. The Rust's other
+-- names, and those that RFC 4253 requires, are unknown here (docs/DIFFERENCES.md, X8, R27).
 use mathlib.Core.Bool.{Bool, true, false, _&&_, _||_}
 use mathlib.Core.List.{List, [], _∷_, _++_, map}
 use Prim.Native.Nat.{ℕ}
@@ -40,6 +41,7 @@ unfoldable pub certificateNames : List (List ℕ)
 unfolding keyNames
 certificateNames = map (λ name. name ++ bytes "-cert-v01@openssh.com") keyNames
 
+-- `clear` is no name of an RFC (R26)
 unfoldable pub cipherNames : List (List ℕ)
 cipherNames =
     bytes "clear"

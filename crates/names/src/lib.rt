@@ -22,8 +22,16 @@ pub use rows::spells;
 pub use rows::wide;
 pub use spell::put_name;
 
-// "A local number outside its table" is refused with this number of document 01.
-pub const OUTSIDE: u8 = 9;
+// The rows at which the kinds start in the one table; the kex names stand first.
+pub const FIRST_KEY: u8 = 13;
+
+pub const FIRST_CERTIFICATE: u8 = 20;
+
+pub const FIRST_CIPHER: u8 = 27;
+
+pub const FIRST_MAC: u8 = 38;
+
+pub const FIRST_COMPRESSION: u8 = 43;
 
 // "Each kind of number has a type of its own, so a MAC number can't be used as a cipher number."
 pub struct KexId(pub u8);
@@ -71,11 +79,11 @@ impl Kind {
     {
         match self {
             Kind::Kex => 0,
-            Kind::Key => 13,
-            Kind::Certificate => 20,
-            Kind::Cipher => 27,
-            Kind::Mac => 38,
-            Kind::Compression => 43,
+            Kind::Key => FIRST_KEY as usize,
+            Kind::Certificate => FIRST_CERTIFICATE as usize,
+            Kind::Cipher => FIRST_CIPHER as usize,
+            Kind::Mac => FIRST_MAC as usize,
+            Kind::Compression => FIRST_COMPRESSION as usize,
         }
     }
 

@@ -4,7 +4,7 @@
 // lent slices and tables of numbers.
 ghost use mathlib.Core.Path.{_≡_};
 ghost use Rattle.names.specs.Tables.{firstRow};
-ghost use Rattle.names.specs.Lookup.{numberOf, found, row, onward};
+ghost use Rattle.names.specs.Lookup.{numberOf, found, foundRow, onward};
 use super::Found;
 use super::Kind;
 use super::Row;
@@ -13,7 +13,7 @@ use super::tables;
 
 // The row of a name of a kind.
 fn row_of(kind: Kind, name: &[u8]) -> Row
-    ensures { λ r. ⌜ row r ≡ onward (firstRow kind) (numberOf kind (now (name .entry))) ⌝ }
+    ensures { λ r. ⌜ foundRow r ≡ onward (firstRow kind) (numberOf kind (now (name .entry))) ⌝ }
 {
     let from = kind.first_row();
     let to = from + kind.count();

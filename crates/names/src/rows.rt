@@ -9,10 +9,10 @@ ghost use Prim.Native.Nat.{_-_, _≤_};
 ghost use Rattle.put.specs.Written.{written, buffer, put};
 ghost use Rattle.wire.specs.Shown.{bytesOf};
 ghost use Rattle.names.specs.Spelled.{rowName, there, entry, flag};
-ghost use Rattle.names.specs.Lookup.{rowFrom, is, row};
+ghost use Rattle.names.specs.Lookup.{rowFrom, is, foundRow};
 use super::Flag;
-use super::OUTSIDE;
 use super::Row;
+use answer::BAD_TABLE;
 use answer::refuse;
 use put::Put;
 
@@ -79,7 +79,7 @@ pub fn find(
     to: usize,
     name: &[u8],
 ) -> Row
-    ensures { λ r. ⌜ row r ≡ rowFrom (now (spellings .entry)) (now (starts .entry)) (now (lengths .entry)) (now (name .entry)) from (to - from) ⌝ }
+    ensures { λ r. ⌜ foundRow r ≡ rowFrom (now (spellings .entry)) (now (starts .entry)) (now (lengths .entry)) (now (name .entry)) from (to - from) ⌝ }
 {
     let mut i = from;
     while i < to {
@@ -106,7 +106,7 @@ pub fn put_row(
     if inside(spellings, starts, lengths, row) {
         return put::put_bytes(out, at, spelling(spellings, starts, lengths, row));
     }
-    Put::Refused(refuse(OUTSIDE))
+    Put::Refused(refuse(BAD_TABLE))
 }
 
 // What a column of bools says at a number.
@@ -117,6 +117,6 @@ pub fn flag_at(column: &[bool], number: u8) -> Flag
     if n < column.len() {
         Flag::Is(column[n])
     } else {
-        Flag::Refused(refuse(OUTSIDE))
+        Flag::Refused(refuse(BAD_TABLE))
     }
 }

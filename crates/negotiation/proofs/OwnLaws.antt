@@ -17,24 +17,29 @@ use Rattle.names.specs.declared.Kind.the-variants.{Kex, Key, Certificate, Ciphe
 use Rattle.choice.specs.declared.Side.{Side}
 use Rattle.choice.specs.Rows.{spellsName}
 use Rattle.choice.proofs.ChoiceLaws.{tableSpells, table-spells}
-use Rattle.preferred.specs.declared.RowList.{RowList}
+use Rattle.filters.specs.declared.RowList.{RowList}
 use Rattle.preferred.specs.declared.Own.{Own}
-use Rattle.preferred.specs.Tables.{Tables, valid}
-use Rattle.preferred.specs.Own.{member, rows, rowList, kexChosen, keyRows, strictName, other, ownOf, listsOf, noOwn, mostOwn}
+use Rattle.judging.specs.Tables.{Tables, valid}
+use Rattle.filters.specs.Picked.{member}
+use Rattle.filters.specs.Made.{rowList, mostOwn}
+use Rattle.preferred.specs.Own.{rows, kexChosen, keyListRows, strictName, other, ownOf, listsOf, noOwn}
 use Rattle.preferred.proofs.HandedLaws.{handed-rows, own-lists, own-nothing, number-valid}
+use Rattle.stages.specs.declared.Rows.{Rows}
+use Rattle.stages.specs.Stages.{readRows}
 use Rattle.negotiation.specs.declared.Names.{Names}
-use Rattle.negotiation.specs.Read.{readKex}
-use Rattle.negotiation.specs.Stages.{lists, front}
+use Rattle.negotiation.specs.Read.{mostKexInit, readKex}
+use Rattle.negotiation.specs.Rows.{front, inNames}
 use Rattle.negotiation.proofs.ReadLaws.{staged}
 
 pub front-length : (n : ℕ) (xs : List ℕ) → n ≤ length xs → n ≡ length (take n xs)
 front-length n xs h = sym (length-take-le n xs h)
 
 -- the constant columns spell what the name table says
-pub table-lists : (side : Side) (kex key cipher mac compression : List ℕ) (asked : Bool) (r : ℕ) (rekey : Bool) (c : At)
-    → lists tableSpells side kex key cipher mac compression asked r rekey c ≡ lists spellsName side kex key cipher mac compression asked r rekey c
-table-lists side kex key cipher mac compression asked r rekey c =
-    ap (λ (f : ℕ → List ℕ → Bool). lists f side kex key cipher mac compression asked r rekey c) (λ i r name. table-spells r name i)
+pub table-rows : (side : Side) (kex key cipher mac compression : List ℕ) (asked : Bool) (r : ℕ) (rekey : Bool) (c : At)
+    → readRows tableSpells side kex key cipher mac compression asked r rekey c
+    ≡ readRows spellsName side kex key cipher mac compression asked r rekey c
+table-rows side kex key cipher mac compression asked r rekey c =
+    ap (λ (f : ℕ → List ℕ → Bool). readRows f side kex key cipher mac compression asked r rekey c) (λ i r name. table-spells r name i)
 
 -- each list fits in its rows
 fits : (xs : List ℕ) → (rowList xs) .len ≤ length ((rowList xs) .rows)
@@ -52,7 +57,7 @@ unfolding listsOf
 lists-fit t =
     record {
       kex = fits (kexChosen t);
-      key = fits (keyRows t);
+      key = fits (keyListRows t);
       cipher = fits (rows Cipher (t .cipher));
       mac = fits (rows Mac (t .mac));
       compression = fits (rows Compression (t .compression));
@@ -73,24 +78,24 @@ module _ (t : Tables) (own : Own) (told : own ≡ ownOf t) (rekey : Bool) (p : L
     is-lists : own ≡ listsOf t
     is-lists = told ∙ own-lists t is-valid
 
-    pub read-long : (q : Refusal) → 262176 < length p → No 1 q → refused q ≡ readKex t rekey p
+    pub read-long : (q : Refusal) → mostKexInit < length p → No 1 q → refused q ≡ readKex t rekey p
     unfolding readKex _>>=_
-    read-long q l e = rw (is-valid, lt-leb (length p) 262176 l, e)
+    read-long q l e = rw (is-valid, lt-leb (length p) mostKexInit l, e)
 
-    pub read-short : (q : Refusal) → length p ≤ 262176 → length p < 17 → No 6 q → refused q ≡ readKex t rekey p
+    pub read-short : (q : Refusal) → length p ≤ mostKexInit → length p < 17 → No 6 q → refused q ≡ readKex t rekey p
     unfolding readKex _>>=_
-    read-short q l k e = rw (is-valid, le-leb (length p) 262176 l, lt-leb 17 (length p) k, e)
+    read-short q l k e = rw (is-valid, le-leb (length p) mostKexInit l, lt-leb 17 (length p) k, e)
 
     pub own-fit : Fit own
     own-fit = rw is-lists (lists-fit t)
 
-    pub read-staged : (m : Out Names) (a : Bool) (n : ℕ) → n ≡ strictName (t .side) → a ≡ member n (t .kex) → length p ≤ 262176 → 17 ≤ length p
-        → m ≡ lists spellsName (t .side) (front (own .«kex_chosen»)) (front (own .key)) (front (own .cipher)) (front (own .mac)) (front (own .compression)) a
-        (strictName (other (t .side))) rekey (here p 17)
+    pub read-staged : (m : Out Names) (a : Bool) (n : ℕ) → n ≡ strictName (t .side) → a ≡ member n (t .kex) → length p ≤ mostKexInit → 17 ≤ length p
+        → m ≡ inNames (readRows spellsName (t .side) (front (own .«kex_chosen»)) (front (own .key)) (front (own .cipher)) (front (own .mac)) (front (own .compression)) a
+        (strictName (other (t .side))) rekey (here p 17))
         → m ≡ readKex t rekey p
     unfolding listsOf
     read-staged m a n g f l k e =
-        e ∙ rw (f, g, is-lists, handed-rows (kexChosen t), handed-rows (keyRows t), handed-rows (rows Cipher (t .cipher)), handed-rows (rows Mac (t .mac)), handed-rows (rows Compression (t .compression)))
+        e ∙ rw (f, g, is-lists, handed-rows (kexChosen t), handed-rows (keyListRows t), handed-rows (rows Cipher (t .cipher)), handed-rows (rows Mac (t .mac)), handed-rows (rows Compression (t .compression)))
         (staged t is-valid rekey p l k)
 
 pub ruleset entry-laws = (read-invalid, read-long, read-short, read-staged)

@@ -1,3 +1,5 @@
+pub mod KexInit
 pub mod Written
 pub mod Read
-pub mod Stages
+pub mod Rows
+pub mod Known

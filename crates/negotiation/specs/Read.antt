@@ -10,36 +10,31 @@ use Rattle.answer.specs.Answer.{Out, refused, done, refuse, guard, pick, _>>=_}
 use Rattle.text.specs.Same.{same}
 use Rattle.text.specs.Literal.{bytes}
 use Rattle.wire.specs.Fields.{At, Run, here, byte, word, string, end}
-use Rattle.wire.specs.Names.{cut, nameList}
 use Rattle.names.specs.Tables.{needMac, builtIn}
 use Rattle.names.specs.Lookup.{numberOf}
 use Rattle.names.specs.declared.Kind.{Kind}
 use Rattle.names.specs.declared.Kind.the-variants.{Kex, Key, Certificate, Cipher, Mac, Compression}
 use Rattle.choice.specs.Choice.{listed, chosen, bothFirst}
 use Rattle.choice.specs.Rows.{rowSpelled, spelledRows}
-use Rattle.preferred.specs.Tables.{Tables, valid}
-use Rattle.preferred.specs.Own.{member, strictName, other, kexChosen}
+use Rattle.judging.specs.Tables.{Tables, valid}
+use Rattle.filters.specs.Picked.{member}
+use Rattle.preferred.specs.Own.{strictName, other, kexChosen}
 use Rattle.negotiation.specs.declared.Names.{Names}
 use Rattle.negotiation.specs.declared.GotNames.{GotNames}
 use Rattle.negotiation.specs.declared.GotNames.the-variants.{Settled, Refused as NotSettled}
+use Rattle.negotiation.specs.KexInit.{offer}
 use Rattle.negotiation.specs.Written.{keyList, cipherList, macList, compressionList}
 
--- "KEXINIT payload over 262,176 bytes" is 1
-abbrev pub mostPayload : ℕ
-mostPayload = 262176
+-- "KEXINIT payload over 262,176 bytes" is 1 (docs/DIFFERENCES.md, R14, X5)
+abbrev pub mostKexInit : ℕ
+mostKexInit = 262176
 
--- a name-list field, as its names
-unfoldable pub offer : At → Out (List (List ℕ) × At)
-offer c = do
-  (t, d) ← nameList c
-  done (cut (t .bytes), d)
-
--- a category that needs a shared name: without one, its number
+-- a category that needs a shared name: without one, its number (docs/DIFFERENCES.md, R11: a list may be empty)
 abbrev pub settle : ℕ → Option (List ℕ) → Out (List ℕ)
 settle n none = refuse n
 settle n (some name) = done name
 
--- a name's number in its kind; a chosen name always has one
+-- a name's number in its kind; a chosen name always has one, in the own list (`all-known`, proofs/KnownLaws.antt)
 abbrev pub orZero : Option ℕ → ℕ
 orZero none = 0
 orZero (some n) = n
@@ -57,7 +52,7 @@ abbrev pub noMac : List ℕ
 noMac = bytes "none"
 
 -- "MAC: no shared name gives `none` if the cipher needs no MAC, else 13; a first shared name `none` under a cipher that
--- needs one gives 13, even if another name is shared."
+-- needs one gives 13, even if another name is shared." (docs/DIFFERENCES.md, R12)
 unfoldable pub settleMac : List ℕ → Option (List ℕ) → Out (List ℕ)
 settleMac cipher none = pick (needsMac cipher) (refuse 13) (done noMac)
 settleMac cipher (some mac) = pick (needsMac cipher && same mac noMac) (refuse 13) (done mac)
@@ -78,24 +73,35 @@ isCertificate name = isSome (numberOf Certificate name)
 unfoldable pub keyNumber : List ℕ → ℕ
 keyNumber name = pick (isCertificate name) (number Certificate name) (number Key name)
 
--- the record
-unfoldable pub settled : List ℕ → List ℕ → List ℕ → List ℕ → List ℕ → List ℕ → List ℕ → Bool → Bool → Names
-settled kex key cipher clientMac serverMac clientCompression serverCompression ignore isStrict =
+-- the names that a side chose
+pub record Choices : Type 0 where
+  pub kex : List ℕ
+  pub key : List ℕ
+  pub cipher : List ℕ
+  pub clientMac : List ℕ
+  pub serverMac : List ℕ
+  pub clientCompression : List ℕ
+  pub serverCompression : List ℕ
+
+-- the record of them, and of whether a guess is ignored and the exchange strict
+unfoldable pub settled : Choices → Bool → Bool → Names
+settled c ignore isStrict =
     record {
-      kex = record { 0 = number Kex kex };
-      key = record { 0 = keyNumber key };
-      cipher = record { 0 = number Cipher cipher };
-      «client_mac» = record { 0 = number Mac clientMac };
-      «server_mac» = record { 0 = number Mac serverMac };
-      «client_compression» = record { 0 = number Compression clientCompression };
-      «server_compression» = record { 0 = number Compression serverCompression };
-      flags = record { «host_key_is_certificate» = isCertificate key; «ignore_guessed» = ignore; «strict_kex» = isStrict };
+      kex = record { 0 = number Kex (c .kex) };
+      key = record { 0 = keyNumber (c .key) };
+      cipher = record { 0 = number Cipher (c .cipher) };
+      «client_mac» = record { 0 = number Mac (c .clientMac) };
+      «server_mac» = record { 0 = number Mac (c .serverMac) };
+      «client_compression» = record { 0 = number Compression (c .clientCompression) };
+      «server_compression» = record { 0 = number Compression (c .serverCompression) };
+      flags = record { «host_key_is_certificate» = isCertificate (c .key); «ignore_guessed» = ignore; «strict_kex» = isStrict };
     }
 
+-- "Fields and choices alternate" (docs/DIFFERENCES.md, C1, R8, R9, R10, R23, R24)
 unfoldable pub readKex : Tables → Bool → List ℕ → Out Names
 readKex t rekey p = do
   _ ← guard 9 (valid t)
-  _ ← guard 1 (leb (length p) mostPayload)
+  _ ← guard 1 (leb (length p) mostKexInit)
   _ ← guard 6 (leb 17 (length p))
   (kexes, c₁) ← offer (here p 17)
   kex ← settle 10 (chosen (t .side) (spelledRows (kexChosen t)) kexes)
@@ -118,7 +124,16 @@ readKex t rekey p = do
   (_, c₁₂) ← word c₁₁
   _ ← end c₁₂
   done
-      (settled kex key cipher clientMac serverMac clientCompression serverCompression
+      (settled
+      (record {
+        kex = kex;
+        key = key;
+        cipher = cipher;
+        clientMac = clientMac;
+        serverMac = serverMac;
+        clientCompression = clientCompression;
+        serverCompression = serverCompression;
+      })
       (not (eqb follows 0) && not (bothFirst (spelledRows (kexChosen t)) kexes && bothFirst (keyList t) keys))
       (strict t rekey kexes))
 

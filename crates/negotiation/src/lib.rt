@@ -1,11 +1,9 @@
-// KEXINIT and negotiation (RFC 4253 section 7.1): `write_kex` and `read_kex` of src/negotiation.rs.
+// Negotiation (RFC 4253 section 7.1): `read_kex` of src/negotiation.rs. What a side writes is in crate kexinit.
 //
 // Copyright 2016 Pierre-Étienne Meunier, licensed under the Apache License, Version 2.0 (NOTICE); changed: rewritten for
 // lent slices and tables of numbers.
-mod pick;
 mod read;
 mod rows;
-mod stages;
 
 use answer::Refusal;
 use names::CipherId;

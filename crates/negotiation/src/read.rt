@@ -7,42 +7,44 @@ ghost use Prim.Native.Nat.{_≤_};
 ghost use lib.ListN.{length};
 ghost use Rattle.wire.specs.Fields.{here};
 ghost use Rattle.choice.specs.Rows.{spellsName};
-ghost use Rattle.preferred.specs.Tables.{tables};
-ghost use Rattle.preferred.specs.Own.{member, strictName, other};
+ghost use Rattle.preferred.specs.Own.{strictName, other};
+ghost use Rattle.stages.specs.Stages.{readRows};
 ghost use Rattle.negotiation.specs.Read.{gotNames, readKex};
-ghost use Rattle.negotiation.specs.Stages.{lists, front};
+ghost use Rattle.negotiation.specs.Rows.{front, inNames};
 use crate::GotNames;
-use crate::stages::lists;
+use crate::rows::in_names;
+use answer::BAD_TABLE;
+use answer::INCONSISTENT;
+use answer::TOO_LONG;
 use answer::refuse;
 use choice::Side;
+use filters::RowList;
+use filters::member;
 use names::tables::LENGTHS;
 use names::tables::SPELLINGS;
 use names::tables::STARTS;
 use preferred::Own;
-use preferred::RowList;
 use preferred::own_lists;
+use stages::read_rows;
 use wire::answers::Cursor;
 
-fn holds(list: &[u8], n: u8) -> bool
-    ensures { λ r. ⌜ r ≡ member n (now (list .entry)) ⌝ }
-{
-    let mut i = 0;
-    while i < list.len() {
-        if list[i] == n {
-            return true;
-        }
-        i += 1;
-    }
-    false
-}
+// The longest KEXINIT that is read.
+const MAXIMUM_KEXINIT: usize = 262176;
 
-// The kex number by which a side asks for strict key exchange.
+// The message number and the cookie, neither of them checked, stand before the lists.
+const FIRST_LIST: usize = 17;
+
+// The kex numbers by which a client and a server ask for strict key exchange.
+const CLIENT_STRICT: u8 = 11;
+
+const SERVER_STRICT: u8 = 12;
+
 fn strict_name(side: Side) -> u8
     ensures { λ r. ⌜ r ≡ strictName side ⌝ }
 {
     match side {
-        Side::Client => 11,
-        Side::Server => 12,
+        Side::Client => CLIENT_STRICT,
+        Side::Server => SERVER_STRICT,
     }
 }
 
@@ -50,15 +52,15 @@ fn peer_strict_name(side: Side) -> u8
     ensures { λ r. ⌜ r ≡ strictName (other side) ⌝ }
 {
     match side {
-        Side::Client => 12,
-        Side::Server => 11,
+        Side::Client => SERVER_STRICT,
+        Side::Server => CLIENT_STRICT,
     }
 }
 
 // The names' columns are lent here, once for all lists.
 fn read_lists(own: Own, side: Side, asked: bool, rekey: bool, p: &[u8]) -> GotNames
     requires { ⌜ (own .«kex_chosen» .len ≤ length (own .«kex_chosen» .rows)) × (own .key .len ≤ length (own .key .rows)) × (own .cipher .len ≤ length (own .cipher .rows)) × (own .mac .len ≤ length (own .mac .rows)) × (own .compression .len ≤ length (own .compression .rows)) ⌝ }
-    ensures { λ r. ⌜ gotNames r ≡ lists spellsName side (front (own .«kex_chosen»)) (front (own .key)) (front (own .cipher)) (front (own .mac)) (front (own .compression)) asked (strictName (other side)) rekey (here (now (p .entry)) 17) ⌝ }
+    ensures { λ r. ⌜ gotNames r ≡ inNames (readRows spellsName side (front (own .«kex_chosen»)) (front (own .key)) (front (own .cipher)) (front (own .mac)) (front (own .compression)) asked (strictName (other side)) rekey (here (now (p .entry)) 17)) ⌝ }
 {
     let kex = own.kex_chosen;
     let kexrows = kex.rows;
@@ -76,7 +78,7 @@ fn read_lists(own: Own, side: Side, asked: bool, rekey: bool, p: &[u8]) -> GotNa
     let comprows = compression.rows;
     let compend = compression.len;
     let strictrow = peer_strict_name(side);
-    lists(
+    let got = read_rows(
         &SPELLINGS,
         &STARTS,
         &LENGTHS,
@@ -90,8 +92,9 @@ fn read_lists(own: Own, side: Side, asked: bool, rekey: bool, p: &[u8]) -> GotNa
         strictrow,
         rekey,
         p,
-        Cursor { at: 17 },
-    )
+        Cursor { at: FIRST_LIST },
+    );
+    in_names(got)
 }
 
 // What this side settles on with the peer that sent `p`. All tables are judged, whatever the side uses of them.
@@ -110,7 +113,19 @@ pub fn read_kex(
     rekey: bool,
     p: &[u8],
 ) -> GotNames
-    ensures { λ r. ⌜ gotNames r ≡ readKex (tables side (now (kex .entry)) (now (key .entry)) (now (certificate .entry)) (now (cipher .entry)) (now (mac .entry)) (now (compression .entry)) (now («key_kinds» .entry)) (now («key_ids» .entry)) (now («cert_kinds» .entry)) (now («cert_ids» .entry))) rekey (now (p .entry)) ⌝ }
+    ensures { λ r. ⌜ gotNames r ≡ readKex (record {
+      side = side;
+      kex = now (kex .entry);
+      key = now (key .entry);
+      certificate = now (certificate .entry);
+      cipher = now (cipher .entry);
+      mac = now (mac .entry);
+      compression = now (compression .entry);
+      keyKinds = now («key_kinds» .entry);
+      keyIds = now («key_ids» .entry);
+      certKinds = now («cert_kinds» .entry);
+      certIds = now («cert_ids» .entry);
+    }) rekey (now (p .entry)) ⌝ }
 {
     let own = own_lists(
         side,
@@ -126,14 +141,14 @@ pub fn read_kex(
         cert_ids,
     );
     if own.number != 0 {
-        return GotNames::Refused(refuse(9));
+        return GotNames::Refused(refuse(BAD_TABLE));
     }
-    if 262176 < p.len() {
-        return GotNames::Refused(refuse(1));
+    if MAXIMUM_KEXINIT < p.len() {
+        return GotNames::Refused(refuse(TOO_LONG));
     }
-    if p.len() < 17 {
-        return GotNames::Refused(refuse(6));
+    if p.len() < FIRST_LIST {
+        return GotNames::Refused(refuse(INCONSISTENT));
     }
-    let asked = holds(kex, strict_name(side));
+    let asked = member(strict_name(side), kex);
     read_lists(own, side, asked, rekey, p)
 }

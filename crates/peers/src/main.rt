@@ -8,7 +8,7 @@ use framing::Packet;
 use negotiation::GotNames;
 use negotiation::Names;
 use preferred::defaults;
-use say::front;
+use text::front;
 
 // The server holds a key of each kind, and no certificate.
 const KINDS: [u8; 5] = [0, 1, 2, 3, 4];

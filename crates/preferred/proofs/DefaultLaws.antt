@@ -10,17 +10,19 @@ use Rattle.names.specs.declared.Kind.{Kind}
 use Rattle.names.specs.declared.Kind.the-variants.{Kex, Key, Cipher, Mac, Compression}
 use Rattle.names.specs.Tables.{bytes, kexNames, keyNames, certificateNames, cipherNames, macNames, compressionNames, namesOf}
 use Rattle.choice.specs.declared.Side.the-variants.{Client, Server}
-use Rattle.preferred.specs.Tables.{all, below, goodList, goodRows, eachRow, agrees, consistent, goodLists, goodTables, rowsOf, valid}
-use Rattle.preferred.specs.Own.{member, kept, ofKind, held, added, certificates, keysOf, keyRows}
+use Rattle.judging.specs.Tables.{all, below, goodList, goodRowTable, eachKeyRow, agrees, consistent, goodLists, goodTables, mayLend, valid}
+use Rattle.choice.specs.Choice.{kept}
+use Rattle.filters.specs.Picked.{member, ofKind, held, added, certificates}
+use Rattle.preferred.specs.Own.{keysOf, keyListRows}
 use Rattle.preferred.specs.Defaults.{defaults, defaultKex, defaultKey, defaultCipher, defaultMac, defaultCompression}
 
 pub client-valid : valid (defaults Client [] [] [] []) ≡ true
-unfolding valid goodLists goodTables goodList goodRows eachRow agrees consistent below all rowsOf namesOf kexNames keyNames certificateNames cipherNames macNames compressionNames
+unfolding valid goodLists goodTables goodList goodRowTable eachKeyRow agrees consistent below all mayLend namesOf kexNames keyNames certificateNames cipherNames macNames compressionNames
 client-valid = refl
 
 -- with one Ed25519 key, whatever its identity
 pub server-valid : (id : ℕ) → valid (defaults Server (0 ∷ []) (id ∷ []) [] []) ≡ true
-unfolding valid goodLists goodTables goodList goodRows eachRow agrees consistent below all rowsOf namesOf kexNames keyNames certificateNames cipherNames macNames compressionNames
+unfolding valid goodLists goodTables goodList goodRowTable eachKeyRow agrees consistent below all mayLend namesOf kexNames keyNames certificateNames cipherNames macNames compressionNames
 server-valid id = rw (eq-eqb id id refl)
 
 abbrev spell : Kind → List ℕ → List (List ℕ)
@@ -52,11 +54,11 @@ unfolding namesOf macNames
 default-mac = refl
 
 -- an Ed25519 key (identity 7) and its certificate: the certificate's name, then the key's
-pub one-certificate : keyRows (defaults Server (0 ∷ []) (7 ∷ []) (0 ∷ []) (7 ∷ [])) ≡ 20 ∷ 13 ∷ []
+pub one-certificate : keyListRows (defaults Server (0 ∷ []) (7 ∷ []) (0 ∷ []) (7 ∷ [])) ≡ 20 ∷ 13 ∷ []
 unfolding keysOf certificates added ofKind held kept member
 one-certificate = refl
 
 -- an RSA key goes with every RSA name, and its certificate does; one of a key that is not held (8) gives none
-pub two-certificates : keyRows (defaults Server (4 ∷ []) (7 ∷ []) (1 ∷ 4 ∷ 4 ∷ []) (8 ∷ 7 ∷ 7 ∷ [])) ≡ 24 ∷ 25 ∷ 26 ∷ 17 ∷ 18 ∷ 19 ∷ []
+pub two-certificates : keyListRows (defaults Server (4 ∷ []) (7 ∷ []) (1 ∷ 4 ∷ 4 ∷ []) (8 ∷ 7 ∷ 7 ∷ [])) ≡ 24 ∷ 25 ∷ 26 ∷ 17 ∷ 18 ∷ 19 ∷ []
 unfolding keysOf certificates added ofKind held kept member
 two-certificates = refl

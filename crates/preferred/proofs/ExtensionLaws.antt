@@ -10,9 +10,11 @@ use Rattle.names.specs.declared.Kind.the-variants.{Kex}
 use Rattle.names.specs.Tables.{bytes, kexNames, namesOf}
 use Rattle.choice.specs.declared.Side.{Side}
 use Rattle.choice.specs.declared.Side.the-variants.{Client, Server}
-use Rattle.preferred.specs.Tables.{Tables}
-use Rattle.preferred.specs.Own.{member, kept, without, rows, extensions, strictName, other, kexWritten, kexChosen}
-use Rattle.preferred.proofs.RoomLaws.{member-append}
+use Rattle.judging.specs.Tables.{Tables}
+use Rattle.choice.specs.Choice.{kept}
+use Rattle.filters.specs.Picked.{member, without}
+use Rattle.preferred.specs.Own.{rows, extensions, strictName, other, kexWritten, kexChosen}
+use Rattle.filters.proofs.RoomLaws.{member-append}
 use Rattle.preferred.proofs.OwnLaws.{kex-rows}
 
 abbrev kexName : ℕ → List ℕ

@@ -7,9 +7,10 @@ use native.Mathlib.Omega.{arith}
 use lib.ListN.{length, take, replicate, length-append, length-replicate}
 use Rattle.answer.specs.Answer.{pick}
 use Rattle.answer.proofs.Laws.{split}
-use Rattle.preferred.specs.Tables.{Tables, valid}
-use Rattle.preferred.specs.Own.{mostOwn, rowList, listsOf, noOwn, ownOf}
-use Rattle.preferred.proofs.FitLaws.{shown-list}
+use Rattle.judging.specs.Tables.{Tables, valid}
+use Rattle.filters.specs.Made.{mostOwn, rowList}
+use Rattle.preferred.specs.Own.{listsOf, noOwn, ownOf}
+use Rattle.filters.proofs.FitLaws.{shown-list}
 
 -- the front of a list that is handed over is the list
 pub handed-rows : (xs : List ℕ) → take ((rowList xs) .len) ((rowList xs) .rows) ≡ xs

@@ -1,9 +1,4 @@
-pub mod JudgeLaws
-pub mod MadeLaws
-pub mod FitLaws
-pub mod RoomLaws
 pub mod OwnLaws
-pub mod ValidLaws
 pub mod RangeLaws
 pub mod ExtensionLaws
 pub mod HandedLaws

@@ -1,42 +1,47 @@
 -- The lists as they are put together, of lists that were judged. Assumes nothing.
 use mathlib.Core.Path.{_≡_, refl, sym, ap, _∙_}
-use mathlib.Core.Bool.{Bool, true, false, not, _&&_}
+use mathlib.Core.Bool.{Bool, true, false, not}
 use mathlib.Core.List.{List, [], _∷_, _++_, map}
 use Prim.Native.Nat.{ℕ, _+_, _≤_, _<_}
 use native.Mathlib.Omega.{arith}
 use native.Mathlib.Nat.{zero-add}
-use borrow.Author.Tests.{leb-true, le-leb, not-true, not-false}
-use lib.Dec.{leb}
-use lib.ListN.{length, length-map}
-use Rattle.answer.proofs.Laws.{and-left, and-right}
+use borrow.Author.Tests.{not-true, not-false}
+use lib.ListN.{length, getD, drop, length-map, drop-of-length-le}
+use Rattle.answer.specs.Answer.{pick}
 use Rattle.names.specs.declared.Kind.{Kind}
 use Rattle.names.specs.declared.Kind.the-variants.{Kex, Key, Certificate, Cipher, Mac, Compression}
 use Rattle.names.specs.Tables.{namesOf, firstRow}
 use Rattle.names.proofs.TableLaws.{count-kind}
 use Rattle.choice.specs.declared.Side.{Side}
 use Rattle.choice.specs.declared.Side.the-variants.{Client, Server}
-use Rattle.preferred.specs.declared.RowList.{RowList}
+use Rattle.filters.specs.declared.RowList.{RowList}
 use Rattle.preferred.specs.declared.Own.{Own}
-use Rattle.preferred.specs.Tables.{Tables, all, below, goodList, mostEntries, valid}
-use Rattle.preferred.specs.Own.{mostOwn, member, kept, without, held, kindOf, certificates, rows, rowList, extensions, other, kexWritten, kexChosen, keysOf, keyRows, noOwn, listsOf, ownOf}
-use Rattle.preferred.specs.Made.{shown, joined, certified}
-use Rattle.preferred.proofs.FitLaws.{shown-list, joined-list, certified-list}
-use Rattle.preferred.proofs.ValidLaws.{Valid, valid-parts}
-use Rattle.preferred.proofs.RoomLaws.{kept-short, kept-below, certificates-short, certificates-numbers}
+use Rattle.judging.specs.Tables.{Tables, goodList, mostEntries, valid}
+use Rattle.choice.specs.Choice.{kept}
+use Rattle.filters.specs.Made.{mostOwn, rowList, shown, pushed, joined, certified}
+use Rattle.filters.specs.Picked.{member, without, held, kindOf, certificates}
+use Rattle.preferred.specs.Own.{rows, extensions, other, kexWritten, kexChosen, keysOf, keyListRows, noOwn, listsOf, ownOf}
+use Rattle.filters.proofs.FitLaws.{shown-list, joined-list, certified-list}
+use Rattle.judging.proofs.JudgeLaws.{next}
+use Rattle.judging.proofs.ValidLaws.{Valid, valid-parts, good, good-short, good-below, good-at}
+use Rattle.filters.proofs.RoomLaws.{kept-short, kept-below, certificates-short, certificates-numbers}
 
--- a good list is short, and its numbers are of its table
-module _ (k : Kind) (ns : List ℕ) where
-  pub good-short : goodList k ns ≡ true → length ns ≤ mostEntries
-  unfolding goodList all
-  good-short g = leb-true (length ns) mostEntries (and-left (leb (length ns) mostEntries) (below (length (namesOf k)) ns && true) g)
+-- the walk over a list whose numbers become rows
+module _ (k : Kind) (ns : List ℕ) (i : ℕ) where
+  pub row-known : goodList k ns ≡ true → i < length ns → getD ns i 0 < length (namesOf k)
+  row-known g h = good-at k ns g i h
 
-  pub good-below : goodList k ns ≡ true → below (length (namesOf k)) ns ≡ true
-  unfolding goodList all
-  good-below g = and-left (below (length (namesOf k)) ns) true (and-right (leb (length ns) mostEntries) (below (length (namesOf k)) ns && true) g)
+  module _ (whole l : RowList) (left : whole ≡ joined l (rows k (drop i ns))) where
+    pub rows-end : length ns ≤ i → l ≡ whole
+    unfolding joined
+    rows-end h = sym (rw (drop-of-length-le ns h) at left)
 
-  pub good : length ns ≤ mostEntries → below (length (namesOf k)) ns ≡ true → goodList k ns ≡ true
-  unfolding goodList all
-  good h b = rw (le-leb (length ns) mostEntries h, b)
+    pub rows-on : i < length ns → (x : ℕ) → x ≡ firstRow k + getD ns i 0 → (r : RowList) → r ≡ pick true (pushed l x) l
+        → whole ≡ joined r (rows k (drop (i + 1) ns))
+    unfolding joined
+    rows-on h x e r q = rw (q, e) (left ∙ rw (next ns i h))
+
+pub ruleset rows-laws = (row-known, rows-end, rows-on)
 
 -- what is kept of a good list is good
 pub good-kept : (k : Kind) (f : ℕ → Bool) (ns : List ℕ) → goodList k ns ≡ true → goodList k (kept f ns) ≡ true
@@ -161,7 +166,7 @@ module _ (t : Tables) (v : Bool) (judged : v ≡ valid t) where
 
     pub own-made : (a b c d e f : RowList) → a ≡ rowList (rows Kex (without (extensions (other (t .side))) (t .kex)))
         → b ≡ rowList (rows Kex (without (extensions Client ++ extensions Server) (t .kex)))
-        → c ≡ rowList (keyRows t)
+        → c ≡ rowList (keyListRows t)
         → d ≡ rowList (rows Cipher (t .cipher))
         → e ≡ rowList (rows Mac (t .mac))
         → f ≡ rowList (rows Compression (t .compression))

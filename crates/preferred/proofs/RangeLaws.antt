@@ -10,17 +10,20 @@ use borrow.Author.Tests.{ltb-true, leb-true, lt-ltb, le-leb, eqb-false, not-true
 use lib.Dec.{leb, ltb, eqb, lit≤}
 use lib.ListN.{length, getD, length-append}
 use Rattle.answer.proofs.Laws.{split, and-left, and-right}
-use Rattle.wire.specs.Names.{every}
+use Rattle.commas.specs.Cut.{every}
 use Rattle.names.specs.declared.Kind.{Kind}
 use Rattle.names.specs.declared.Kind.the-variants.{Kex, Key, Certificate, Cipher, Mac, Compression}
 use Rattle.names.specs.Tables.{namesOf, allNames, firstRow}
 use Rattle.names.proofs.TableLaws.{countOf, count-kind, row-count}
 use Rattle.choice.specs.declared.Side.{Side}
 use Rattle.choice.specs.declared.Side.the-variants.{Client, Server}
-use Rattle.preferred.specs.Tables.{Tables, mostEntries, below, goodList, valid}
-use Rattle.preferred.specs.Own.{mostOwn, member, kept, without, held, certificates, rows, extensions, other, kexWritten, kexChosen, keysOf, keyRows}
-use Rattle.preferred.proofs.OwnLaws.{good-short, good-below, good-without, good-held, good-certificates, kex-rows, rows-short}
-use Rattle.preferred.proofs.ValidLaws.{valid-parts}
+use Rattle.judging.specs.Tables.{Tables, mostEntries, below, goodList, valid}
+use Rattle.choice.specs.Choice.{kept}
+use Rattle.filters.specs.Made.{mostOwn}
+use Rattle.filters.specs.Picked.{member, without, held, certificates}
+use Rattle.preferred.specs.Own.{rows, extensions, other, kexWritten, kexChosen, keysOf, keyListRows}
+use Rattle.judging.proofs.ValidLaws.{good-short, good-below, valid-parts}
+use Rattle.preferred.proofs.OwnLaws.{good-without, good-held, good-certificates, kex-rows, rows-short}
 
 -- every row of these is at least `from` and below `to`
 unfoldable pub within : ℕ → ℕ → List ℕ → Bool
@@ -48,17 +51,21 @@ rows-within first count (n ∷ ns) h =
     let a = ltb-true n count (and-left (ltb n count) (below count ns) h) in
     rw (le-leb first (first + n) (omega arith), lt-ltb (first + n) (first + count) (omega arith)) (rows-within first count ns (and-right (ltb n count) (below count ns) h))
 
-good-within : (k : Kind) (ns : List ℕ) → goodList k ns ≡ true → within (firstRow k) (firstRow k + countOf k) (rows k ns) ≡ true
+-- the row after a kind's last one
+abbrev pub endRow : Kind → ℕ
+endRow k = firstRow k + countOf k
+
+good-within : (k : Kind) (ns : List ℕ) → goodList k ns ≡ true → within (firstRow k) (endRow k) (rows k ns) ≡ true
 good-within k ns g = rows-within (firstRow k) (countOf k) ns (rw (← count-kind k) at (good-below k ns g))
 
--- rows that end by 44 are rows of the name table
-pub table-rows : (from to : ℕ) (rs : List ℕ) → to ≤ 44 → within from to rs ≡ true → every (λ r. ltb r (length allNames)) rs ≡ true
+-- rows that end by the last kind's end are rows of the name table
+pub table-rows : (from to : ℕ) (rs : List ℕ) → to ≤ endRow Compression → within from to rs ≡ true → every (λ r. ltb r (length allNames)) rs ≡ true
 unfolding within
 table-rows from to [] b h = refl
 table-rows from to (r ∷ rs) b h =
     let c = and-left (leb from r && ltb r to) (within from to rs) h in
     let e = ltb-true r to (and-right (leb from r) (ltb r to) c) in
-    rw (row-count, lt-ltb r 44 (omega arith)) (rw row-count at (table-rows from to rs b (and-right (leb from r && ltb r to) (within from to rs) h)))
+    rw (row-count, lt-ltb r (endRow Compression) (omega arith)) (rw row-count at (table-rows from to rs b (and-right (leb from r && ltb r to) (within from to rs) h)))
 
 -- what stands at each place of such a list
 pub within-at : (from to : ℕ) (rs : List ℕ) → within from to rs ≡ true → (i : ℕ) → i < length rs → (from ≤ getD rs i 0) × (getD rs i 0 < to)
@@ -81,12 +88,12 @@ apart n m ms h =
 abbrev allExtensions : List ℕ
 allExtensions = extensions Client ++ extensions Server
 
-methods-below : (ns : List ℕ) → below 13 ns ≡ true → below 9 (without allExtensions ns) ≡ true
+methods-below : (ns : List ℕ) → below (countOf Kex) ns ≡ true → below 9 (without allExtensions ns) ≡ true
 unfolding below without kept
 methods-below [] h = refl
 methods-below (n ∷ ns) h =
-    let a = ltb-true n 13 (and-left (ltb n 13) (below 13 ns) h) in
-    let b = methods-below ns (and-right (ltb n 13) (below 13 ns) h) in
+    let a = ltb-true n (countOf Kex) (and-left (ltb n (countOf Kex)) (below (countOf Kex) ns) h) in
+    let b = methods-below ns (and-right (ltb n (countOf Kex)) (below (countOf Kex) ns) h) in
     split (member n allExtensions)
     (λ e. rw e b)
     (λ e.
@@ -98,17 +105,17 @@ methods-below (n ∷ ns) h =
     rw (e, lt-ltb n 9 l) b)
 
 keys-inside : (side : Side) (key certificate kinds ids ks is : List ℕ) → goodList Key key ≡ true → goodList Certificate certificate ≡ true
-    → within 13 27 (keysOf side key certificate kinds ids ks is) ≡ true
+    → within (firstRow Key) (endRow Certificate) (keysOf side key certificate kinds ids ks is) ≡ true
 unfolding keysOf
 keys-inside Client key certificate kinds ids ks is g h =
-    within-both 13 27 (rows Certificate certificate) (rows Key key)
-    (within-more 20 27 13 27 (lit≤ tt) (lit≤ tt) (rows Certificate certificate) (good-within Certificate certificate h))
-    (within-more 13 20 13 27 (lit≤ tt) (lit≤ tt) (rows Key key) (good-within Key key g))
+    within-both (firstRow Key) (endRow Certificate) (rows Certificate certificate) (rows Key key)
+    (within-more (firstRow Certificate) (endRow Certificate) (firstRow Key) (endRow Certificate) (lit≤ tt) (lit≤ tt) (rows Certificate certificate) (good-within Certificate certificate h))
+    (within-more (firstRow Key) (endRow Key) (firstRow Key) (endRow Certificate) (lit≤ tt) (lit≤ tt) (rows Key key) (good-within Key key g))
 keys-inside Server key certificate kinds ids ks is g h =
     let certs = certificates [] key ids ks is in
-    within-both 13 27 (rows Certificate certs) (rows Key (held kinds key))
-    (within-more 20 27 13 27 (lit≤ tt) (lit≤ tt) (rows Certificate certs) (good-within Certificate certs (good-certificates key ids ks is g)))
-    (within-more 13 20 13 27 (lit≤ tt) (lit≤ tt) (rows Key (held kinds key)) (good-within Key (held kinds key) (good-held Key kinds key g)))
+    within-both (firstRow Key) (endRow Certificate) (rows Certificate certs) (rows Key (held kinds key))
+    (within-more (firstRow Certificate) (endRow Certificate) (firstRow Key) (endRow Certificate) (lit≤ tt) (lit≤ tt) (rows Certificate certs) (good-within Certificate certs (good-certificates key ids ks is g)))
+    (within-more (firstRow Key) (endRow Key) (firstRow Key) (endRow Certificate) (lit≤ tt) (lit≤ tt) (rows Key (held kinds key)) (good-within Key (held kinds key) (good-held Key kinds key g)))
 
 keys-fit : (side : Side) (key certificate kinds ids ks is : List ℕ) → goodList Key key ≡ true → goodList Certificate certificate ≡ true
     → length (keysOf side key certificate kinds ids ks is) ≤ mostOwn
@@ -124,7 +131,7 @@ keys-fit Server key certificate kinds ids ks is g h =
 
 module _ (t : Tables) (v : valid t ≡ true) where
   -- kex names that are written: rows 0 to 12
-  pub written-within : within 0 13 (kexWritten t) ≡ true
+  pub written-within : within (firstRow Kex) (endRow Kex) (kexWritten t) ≡ true
   unfolding kexWritten
   written-within = good-within Kex (without (extensions (other (t .side))) (t .kex)) (good-without Kex (extensions (other (t .side))) (t .kex) (valid-parts t v .kex))
 
@@ -133,20 +140,20 @@ module _ (t : Tables) (v : valid t ≡ true) where
   unfolding kexChosen
   chosen-within = rows-within 0 9 (without allExtensions (t .kex)) (methods-below (t .kex) (rw (← count-kind Kex) at (good-below Kex (t .kex) (valid-parts t v .kex))))
 
-  -- host key names: rows 13 to 26, the key names below 20 and the certificate names from there on
-  pub keys-within : within 13 27 (keyRows t) ≡ true
+  -- host key names: rows 13 to 26, key names, then certificate names
+  pub keys-within : within (firstRow Key) (endRow Certificate) (keyListRows t) ≡ true
   keys-within = keys-inside (t .side) (t .key) (t .certificate) (t .keyKinds) (t .keyIds) (t .certKinds) (t .certIds) (valid-parts t v .key) (valid-parts t v .certificate)
 
   -- ciphers: rows 27 to 37
-  pub ciphers-within : within 27 38 (rows Cipher (t .cipher)) ≡ true
+  pub ciphers-within : within (firstRow Cipher) (endRow Cipher) (rows Cipher (t .cipher)) ≡ true
   ciphers-within = good-within Cipher (t .cipher) (valid-parts t v .cipher)
 
   -- MACs: rows 38 to 42
-  pub macs-within : within 38 43 (rows Mac (t .mac)) ≡ true
+  pub macs-within : within (firstRow Mac) (endRow Mac) (rows Mac (t .mac)) ≡ true
   macs-within = good-within Mac (t .mac) (valid-parts t v .mac)
 
   -- compression: row 43
-  pub compressions-within : within 43 44 (rows Compression (t .compression)) ≡ true
+  pub compressions-within : within (firstRow Compression) (endRow Compression) (rows Compression (t .compression)) ≡ true
   compressions-within = good-within Compression (t .compression) (valid-parts t v .compression)
 
   -- no list but the key list is longer than a preference list, and that fits too
@@ -158,7 +165,7 @@ module _ (t : Tables) (v : valid t ≡ true) where
   unfolding kexChosen
   chosen-short = rows-short Kex (without allExtensions (t .kex)) (good-without Kex allExtensions (t .kex) (valid-parts t v .kex))
 
-  pub keys-short : length (keyRows t) ≤ mostOwn
+  pub keys-short : length (keyListRows t) ≤ mostOwn
   keys-short = keys-fit (t .side) (t .key) (t .certificate) (t .keyKinds) (t .keyIds) (t .certKinds) (t .certIds) (valid-parts t v .key) (valid-parts t v .certificate)
 
   pub ciphers-short : length (rows Cipher (t .cipher)) ≤ mostEntries

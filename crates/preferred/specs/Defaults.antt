@@ -1,8 +1,8 @@
--- `Preferred::DEFAULT` of src/negotiation.rs, in numbers. The rows are the caller's.
+-- `Preferred::DEFAULT` of src/negotiation.rs, in numbers. The row tables are the caller's.
 use mathlib.Core.List.{List, [], _∷_}
 use Prim.Native.Nat.{ℕ}
 use Rattle.choice.specs.declared.Side.{Side}
-use Rattle.preferred.specs.Tables.{Tables, tables}
+use Rattle.judging.specs.Tables.{Tables}
 
 -- SAFE_KEX_ORDER: every kex name, in the table's order
 abbrev pub defaultKex : List ℕ
@@ -25,4 +25,16 @@ defaultCompression = 0 ∷ []
 -- "so turning it on is the caller's decision, never a default": no client certificates
 abbrev pub defaults : Side → List ℕ → List ℕ → List ℕ → List ℕ → Tables
 defaults side keyKinds keyIds certKinds certIds =
-    tables side defaultKex defaultKey [] defaultCipher defaultMac defaultCompression keyKinds keyIds certKinds certIds
+    record {
+      side = side;
+      kex = defaultKex;
+      key = defaultKey;
+      certificate = [];
+      cipher = defaultCipher;
+      mac = defaultMac;
+      compression = defaultCompression;
+      keyKinds = keyKinds;
+      keyIds = keyIds;
+      certKinds = certKinds;
+      certIds = certIds;
+    }

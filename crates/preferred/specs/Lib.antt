@@ -1,4 +1,2 @@
-pub mod Tables
 pub mod Own
-pub mod Made
 pub mod Defaults

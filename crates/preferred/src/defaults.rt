@@ -3,8 +3,9 @@
 // Copyright 2016 Pierre-Étienne Meunier, licensed under the Apache License, Version 2.0 (NOTICE); changed: rewritten for
 // lent slices and tables of numbers.
 ghost use mathlib.Core.Path.{_≡_};
+ghost use mathlib.Core.List.{[]};
 ghost use Rattle.preferred.specs.Own.{ownOf};
-ghost use Rattle.preferred.specs.Defaults.{defaults};
+ghost use Rattle.preferred.specs.Defaults.{defaultKex, defaultKey, defaultCipher, defaultMac, defaultCompression};
 use super::Own;
 use super::make::own_lists;
 use choice::Side;
@@ -19,7 +20,7 @@ pub const MAC: [u8; 4] = [1, 2, 3, 4];
 
 pub const COMPRESSION: [u8; 1] = [0];
 
-// The own lists of a side that lends these, and its rows.
+// The own lists of a side that lends these, and its row tables.
 pub fn default_lists(
     side: Side,
     key_kinds: &[u8],
@@ -27,7 +28,19 @@ pub fn default_lists(
     cert_kinds: &[u8],
     cert_ids: &[u32],
 ) -> Own
-    ensures { λ r. ⌜ r ≡ ownOf (defaults side (now («key_kinds» .entry)) (now («key_ids» .entry)) (now («cert_kinds» .entry)) (now («cert_ids» .entry))) ⌝ }
+    ensures { λ r. ⌜ r ≡ ownOf (record {
+      side = side;
+      kex = defaultKex;
+      key = defaultKey;
+      certificate = [];
+      cipher = defaultCipher;
+      mac = defaultMac;
+      compression = defaultCompression;
+      keyKinds = now («key_kinds» .entry);
+      keyIds = now («key_ids» .entry);
+      certKinds = now («cert_kinds» .entry);
+      certIds = now («cert_ids» .entry);
+    }) ⌝ }
 {
     own_lists(
         side,

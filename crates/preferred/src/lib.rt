@@ -1,29 +1,15 @@
-// The local tables (document 01): what they may be, and the lists that this side writes and chooses from. `Preferred`,
+// The lists that this side writes and chooses from, made of the local tables (document 01). `Preferred`,
 // `server_certificate_names` and `possible_host_key_algos_for_keys` of src/negotiation.rs.
 //
 // Copyright 2016 Pierre-Étienne Meunier, licensed under the Apache License, Version 2.0 (NOTICE); changed: rewritten for
 // lent slices and tables of numbers.
 
 pub mod defaults;
-mod filters;
-mod judge;
 mod make;
 
 pub use defaults::default_lists;
-pub use judge::valid;
+use filters::RowList;
 pub use make::own_lists;
-
-// The most entries of a preference list.
-pub const MOST_ENTRIES: usize = 16;
-
-// The most rows of an own list: certificate names, then key names.
-pub const MOST_OWN: usize = 2 * MOST_ENTRIES;
-
-// Rows of the name table, `len` of them, and 0 after them.
-pub struct RowList {
-    pub rows: [u8; MOST_OWN],
-    pub len: usize,
-}
 
 // A side's own lists, made of tables that were judged: `number` is 0, or 9 and every list is empty. (An enum that holds
 // an array is not covered, so the number stands beside the lists.)

@@ -10,21 +10,24 @@ ghost use lib.ListN.{length};
 ghost use Rattle.names.specs.Tables.{namesOf, firstRow};
 ghost use Rattle.names.specs.declared.Kind.the-variants.{Kex, Key, Certificate};
 ghost use Rattle.choice.specs.declared.Side.the-variants.{Client, Server};
-ghost use Rattle.preferred.specs.Tables.{goodList, valid, tables};
-ghost use Rattle.preferred.specs.Own.{without, held, certificates, rows, rowList, keysOf, noOwn, ownOf, extensions, other};
-ghost use Rattle.preferred.specs.Made.{shown, joined};
+ghost use Rattle.judging.specs.Tables.{goodList, valid};
+ghost use Rattle.filters.specs.Picked.{without, held, certificates};
+ghost use Rattle.filters.specs.Made.{rowList, shown, joined};
+ghost use Rattle.preferred.specs.Own.{rows, keysOf, noOwn, ownOf, extensions, other};
 use super::Own;
-use super::RowList;
-use super::filters::certified;
-use super::filters::front;
-use super::filters::held;
-use super::filters::none;
-use super::filters::push;
-use super::filters::without;
-use super::judge::valid;
+use answer::BAD_TABLE;
+use answer::NOTHING;
 use choice::Side;
+use filters::RowList;
+use filters::certified;
+use filters::held;
+use filters::none;
+use filters::push;
+use filters::without;
+use judging::valid;
 use names::Kind;
 use names::wide;
+use text::front;
 
 // ext-info-c, kex-strict-c-v00@openssh.com
 const CLIENT_NAMES: [u8; 2] = [9, 11];
@@ -128,7 +131,7 @@ fn refused() -> Own
 {
     let empty = none();
     Own {
-        number: 9,
+        number: BAD_TABLE,
         kex_written: empty,
         kex_chosen: empty,
         key: empty,
@@ -152,7 +155,19 @@ pub fn own_lists(
     cert_kinds: &[u8],
     cert_ids: &[u32],
 ) -> Own
-    ensures { λ r. ⌜ r ≡ ownOf (tables side (now (kex .entry)) (now (key .entry)) (now (certificate .entry)) (now (cipher .entry)) (now (mac .entry)) (now (compression .entry)) (now («key_kinds» .entry)) (now («key_ids» .entry)) (now («cert_kinds» .entry)) (now («cert_ids» .entry))) ⌝ }
+    ensures { λ r. ⌜ r ≡ ownOf (record {
+      side = side;
+      kex = now (kex .entry);
+      key = now (key .entry);
+      certificate = now (certificate .entry);
+      cipher = now (cipher .entry);
+      mac = now (mac .entry);
+      compression = now (compression .entry);
+      keyKinds = now («key_kinds» .entry);
+      keyIds = now («key_ids» .entry);
+      certKinds = now («cert_kinds» .entry);
+      certIds = now («cert_ids» .entry);
+    }) ⌝ }
 {
     if !valid(
         side,
@@ -170,7 +185,7 @@ pub fn own_lists(
         return refused();
     }
     Own {
-        number: 0,
+        number: NOTHING,
         kex_written: kex_written(side, kex),
         kex_chosen: kex_chosen(kex),
         key: key_rows(

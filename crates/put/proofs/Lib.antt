@@ -1,2 +1,4 @@
 mod CodeLaws
 pub mod PutLaws
+pub mod WriterLaws
+pub mod RunLaws

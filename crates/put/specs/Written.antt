@@ -9,7 +9,8 @@ use Rattle.answer.specs.Answer.{Out, refused, done, guard, pick, _>>=_}
 use Rattle.put.specs.declared.Put.{Put}
 use Rattle.put.specs.declared.Put.the-variants.{Next, Refused}
 
--- the answer: the position after what was written (8: the lent output is shorter than what is to be written)
+-- the answer: the position after what was written (8: the lent output is shorter than what is to be written;
+-- docs/DIFFERENCES.md, X5)
 unfoldable pub written : List ℕ → ℕ → Out (List ℕ) → Out ℕ
 written out at what = do
   x ← what

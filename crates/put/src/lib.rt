@@ -7,13 +7,11 @@ ghost use lib.ListN.{length};
 ghost use lib.Seq.{sets};
 ghost use Rattle.answer.specs.Answer.{done};
 ghost use Rattle.put.specs.Written.{written, buffer, put, word, string};
+ghost use Rattle.put.specs.Runs.{nextOr};
+use answer::NO_ROOM;
 use answer::Refusal;
+use answer::TOO_LONG;
 use answer::refuse;
-
-// The numbers of document 01 that a put refuses with.
-const TOO_LONG: u8 = 1;
-
-const NO_ROOM: u8 = 8;
 
 // The most bytes whose count a uint32 can say.
 const LONGEST: usize = 4294967295;
@@ -102,4 +100,14 @@ pub fn put_string(out: &mut [u8], at: usize, x: &[u8]) -> Put
     }
     let body = store_u32(out, at, x.len() as u32);
     Put::Next(store_bytes(out, body, x))
+}
+
+// Where the next put goes when one was made at `at`: for a writer that has tested the room for a whole run of puts.
+pub fn after(p: Put, at: usize) -> usize
+    ensures { λ r. ⌜ r ≡ nextOr (put p) at ⌝ }
+{
+    match p {
+        Put::Next(n) => n,
+        Put::Refused(_) => at,
+    }
 }

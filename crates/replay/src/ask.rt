@@ -1,20 +1,18 @@
-// The input of a line, read and put to our code; what it answers is told in the words of a recorded answer.
+// The input of a line, read and put to our code. What it answers is held to the recorded answer, which stands at `at`.
 use crate::answers;
 use crate::reader::GotBytes;
 use crate::reader::GotNumber;
 use crate::reader::Reader;
-use crate::tables::GotSide;
+use crate::reader::room;
+use crate::tables::Tables;
 use crate::tables::identities;
 use crate::tables::part;
-use crate::tables::read_lists;
-use crate::tables::side;
+use crate::tables::read_tables;
 use crate::tell::Told;
-use channels::ChannelOpenConfirmation;
 use channels::OpenChannelMessage;
 use choice::Side;
 use framing::Counters;
-use negotiation::GotNames;
-use put::Put;
+use replies::ChannelOpenConfirmation;
 use wire::answers::Place;
 
 // Ours, and the reader after the input.
@@ -26,239 +24,202 @@ pub enum Said {
 // The largest u32.
 const WORD: u64 = 4294967295;
 
-fn settles_with(
+// Both functions are lent the same lists. The last bytes are the cookie to write with, or the payload to read.
+fn kex_with(
+    line: &[u8],
+    at: usize,
+    writes: bool,
     side: Side,
     places: [Place; 10],
     key_ids: &[u32],
     cert_ids: &[u32],
     rekey: bool,
-    payload: Place,
+    last: &[u8],
     space: &[u8],
-) -> GotNames {
-    negotiation::read_kex(
+) -> Told {
+    let kexes = part(space, places[0]);
+    let key = part(space, places[1]);
+    let certificate = part(space, places[2]);
+    let cipher = part(space, places[3]);
+    let mac = part(space, places[4]);
+    let compression = part(space, places[5]);
+    let keys = part(space, places[6]);
+    let certs = part(space, places[8]);
+    if writes {
+        let mut out = room();
+        let w = kexinit::write_kex(
+            side,
+            kexes,
+            key,
+            certificate,
+            cipher,
+            mac,
+            compression,
+            keys,
+            key_ids,
+            certs,
+            cert_ids,
+            last,
+            &mut out,
+        );
+        return answers::written(line, at, w, &out);
+    }
+    let got = negotiation::read_kex(
         side,
-        part(space, places[0]),
-        part(space, places[1]),
-        part(space, places[2]),
-        part(space, places[3]),
-        part(space, places[4]),
-        part(space, places[5]),
-        part(space, places[6]),
+        kexes,
+        key,
+        certificate,
+        cipher,
+        mac,
+        compression,
+        keys,
         key_ids,
-        part(space, places[8]),
+        certs,
         cert_ids,
         rekey,
-        part(space, payload),
-    )
+        last,
+    );
+    answers::settled(line, at, got)
 }
 
-fn settles(side: Side, places: [Place; 10], rekey: bool, payload: Place, space: &[u8]) -> GotNames {
+fn kex(
+    line: &[u8],
+    at: usize,
+    writes: bool,
+    t: Tables,
+    rekey: bool,
+    last: Place,
+    space: &[u8],
+) -> Told {
+    let places = t.places;
+    let side = t.side;
     let mut key_ids = [0u32; 8];
     let mut cert_ids = [0u32; 8];
     let k = identities(part(space, places[7]), &mut key_ids);
     let c = identities(part(space, places[9]), &mut cert_ids);
-    settles_with(
+    kex_with(
+        line,
+        at,
+        writes,
         side,
         places,
         &key_ids[..k],
         &cert_ids[..c],
         rekey,
-        payload,
+        part(space, last),
         space,
     )
 }
 
-// The rest of the line after the tables.
-fn reads(
-    line: &[u8],
-    side: Side,
-    places: [Place; 10],
-    r: Reader,
-    space: &mut [u8],
-    text: &mut [u8],
-) -> Said {
-    let n = r.number(line);
+fn read_kex(line: &[u8], r: Reader, space: &[u8], at: usize) -> Said {
+    let t = read_tables(line, r);
+    if !t.whole {
+        return Said::Malformed;
+    }
+    let n = t.end.number(line);
     let GotNumber::Number(rekey, r1) = n else {
         return Said::Malformed;
     };
     if 1 < rekey {
         return Said::Malformed;
     }
-    let b = r1.bytes(line, space);
+    let b = r1.bytes(line);
     let GotBytes::Bytes(payload, end) = b else {
         return Said::Malformed;
     };
-    let got = settles(side, places, rekey == 1, payload, space);
-    Said::Ours(answers::settled(text, got), end)
+    Said::Ours(kex(line, at, false, t, rekey == 1, payload, space), end)
 }
 
-fn read_kex(line: &[u8], r: Reader, space: &mut [u8], text: &mut [u8]) -> Said {
-    let s = side(line, r);
-    let GotSide::Of(side, r1) = s else {
-        return Said::Malformed;
-    };
-    let t = read_lists(line, r1, space);
+fn write_kex(line: &[u8], r: Reader, space: &[u8], at: usize) -> Said {
+    let t = read_tables(line, r);
     if !t.whole {
         return Said::Malformed;
     }
-    let places = t.places;
-    reads(line, side, places, t.end, space, text)
-}
-
-fn writes_with(
-    side: Side,
-    places: [Place; 10],
-    key_ids: &[u32],
-    cert_ids: &[u32],
-    cookie: Place,
-    space: &[u8],
-    out: &mut [u8],
-) -> Put {
-    kexinit::write_kex(
-        side,
-        part(space, places[0]),
-        part(space, places[1]),
-        part(space, places[2]),
-        part(space, places[3]),
-        part(space, places[4]),
-        part(space, places[5]),
-        part(space, places[6]),
-        key_ids,
-        part(space, places[8]),
-        cert_ids,
-        part(space, cookie),
-        out,
-    )
-}
-
-fn writes(side: Side, places: [Place; 10], cookie: Place, space: &[u8], out: &mut [u8]) -> Put {
-    let mut key_ids = [0u32; 8];
-    let mut cert_ids = [0u32; 8];
-    let k = identities(part(space, places[7]), &mut key_ids);
-    let c = identities(part(space, places[9]), &mut cert_ids);
-    writes_with(
-        side,
-        places,
-        &key_ids[..k],
-        &cert_ids[..c],
-        cookie,
-        space,
-        out,
-    )
-}
-
-fn write_kex(line: &[u8], r: Reader, space: &mut [u8], out: &mut [u8], text: &mut [u8]) -> Said {
-    let s = side(line, r);
-    let GotSide::Of(side, r1) = s else {
-        return Said::Malformed;
-    };
-    let t = read_lists(line, r1, space);
-    if !t.whole {
-        return Said::Malformed;
-    }
-    let b = t.end.bytes(line, space);
+    let b = t.end.bytes(line);
     let GotBytes::Bytes(cookie, end) = b else {
         return Said::Malformed;
     };
-    let places = t.places;
-    let w = writes(side, places, cookie, space, out);
-    Said::Ours(answers::written(text, w, out), end)
+    Said::Ours(kex(line, at, true, t, false, cookie, space), end)
 }
 
-// A direction's counters, then bytes.
-pub enum GotCounted {
-    Counted(Counters, Place, Reader),
+// A uint32, a number and bytes: what three of the functions are asked with.
+pub enum GotThree {
+    Three(u32, u64, Place, Reader),
     Malformed,
 }
 
-fn counted(line: &[u8], r: Reader, space: &mut [u8]) -> GotCounted {
+fn three(line: &[u8], r: Reader) -> GotThree {
     let a = r.number(line);
-    let GotNumber::Number(seqn, r1) = a else {
-        return GotCounted::Malformed;
+    let GotNumber::Number(first, r1) = a else {
+        return GotThree::Malformed;
     };
-    let b = r1.number(line);
-    let GotNumber::Number(bytes, r2) = b else {
-        return GotCounted::Malformed;
-    };
-    if WORD < seqn {
-        return GotCounted::Malformed;
+    if WORD < first {
+        return GotThree::Malformed;
     }
-    let x = r2.bytes(line, space);
-    let GotBytes::Bytes(p, end) = x else {
-        return GotCounted::Malformed;
+    let b = r1.number(line);
+    let GotNumber::Number(second, r2) = b else {
+        return GotThree::Malformed;
     };
-    GotCounted::Counted(
-        Counters {
-            seqn: seqn as u32,
-            bytes,
-        },
-        p,
-        end,
-    )
+    let x = r2.bytes(line);
+    let GotBytes::Bytes(p, end) = x else {
+        return GotThree::Malformed;
+    };
+    GotThree::Three(first as u32, second, p, end)
 }
 
-fn frame_read(line: &[u8], r: Reader, space: &mut [u8], text: &mut [u8]) -> Said {
-    let x = counted(line, r, space);
-    let GotCounted::Counted(k, p, end) = x else {
+fn frame_read(line: &[u8], r: Reader, space: &[u8], at: usize) -> Said {
+    let x = three(line, r);
+    let GotThree::Three(seqn, bytes, p, end) = x else {
         return Said::Malformed;
     };
     let s = part(space, p);
-    let got = framing::read(s, k);
-    Said::Ours(answers::packet(text, got, s), end)
+    let got = framing::read(s, Counters { seqn, bytes });
+    Said::Ours(answers::packet(line, at, got, s), end)
 }
 
-fn frame_write(line: &[u8], r: Reader, space: &mut [u8], out: &mut [u8], text: &mut [u8]) -> Said {
-    let x = counted(line, r, space);
-    let GotCounted::Counted(k, p, end) = x else {
+fn frame_write(line: &[u8], r: Reader, space: &[u8], at: usize) -> Said {
+    let x = three(line, r);
+    let GotThree::Three(seqn, bytes, p, end) = x else {
         return Said::Malformed;
     };
-    let w = framing::write(part(space, p), k, out);
-    Said::Ours(answers::sealed(text, w, out), end)
+    let mut out = room();
+    let w = framing::write(part(space, p), Counters { seqn, bytes }, &mut out);
+    Said::Ours(answers::sealed(line, at, w, &out), end)
 }
 
-fn open(line: &[u8], r: Reader, space: &mut [u8], text: &mut [u8]) -> Said {
-    let x = r.bytes(line, space);
+fn open(line: &[u8], r: Reader, space: &[u8], at: usize) -> Said {
+    let x = r.bytes(line);
     let GotBytes::Bytes(p, end) = x else {
         return Said::Malformed;
     };
     let body = part(space, p);
     let got = OpenChannelMessage::parse(body);
-    Said::Ours(answers::opened(text, got, body), end)
+    Said::Ours(answers::opened(line, at, got, body), end)
 }
 
-fn confirmation(line: &[u8], r: Reader, space: &mut [u8], text: &mut [u8]) -> Said {
-    let x = r.bytes(line, space);
+fn confirmation(line: &[u8], r: Reader, space: &[u8], at: usize) -> Said {
+    let x = r.bytes(line);
     let GotBytes::Bytes(p, end) = x else {
         return Said::Malformed;
     };
     let got = ChannelOpenConfirmation::parse(part(space, p));
-    Said::Ours(answers::confirmed(text, got), end)
+    Said::Ours(answers::confirmed(line, at, got), end)
 }
 
-fn fail(line: &[u8], r: Reader, space: &mut [u8], out: &mut [u8], text: &mut [u8]) -> Said {
-    let a = r.number(line);
-    let GotNumber::Number(recipient, r1) = a else {
+fn fail(line: &[u8], r: Reader, space: &[u8], at: usize) -> Said {
+    let x = three(line, r);
+    let GotThree::Three(recipient, reason, p, end) = x else {
         return Said::Malformed;
     };
-    let b = r1.number(line);
-    let GotNumber::Number(reason, r2) = b else {
-        return Said::Malformed;
-    };
-    if WORD < recipient {
-        return Said::Malformed;
-    }
     if 255 < reason {
         return Said::Malformed;
     }
-    let x = r2.bytes(line, space);
-    let GotBytes::Bytes(p, end) = x else {
-        return Said::Malformed;
-    };
-    let w = channels::fail(recipient as u32, reason as u8, part(space, p), out);
-    Said::Ours(answers::written(text, w, out), end)
+    let mut out = room();
+    let w = replies::fail(recipient, reason as u8, part(space, p), &mut out);
+    Said::Ours(answers::written(line, at, w, &out), end)
 }
 
-fn unknown_type(line: &[u8], r: Reader, out: &mut [u8], text: &mut [u8]) -> Said {
+fn unknown_type(line: &[u8], r: Reader, at: usize) -> Said {
     let a = r.number(line);
     let GotNumber::Number(recipient, end) = a else {
         return Said::Malformed;
@@ -266,28 +227,22 @@ fn unknown_type(line: &[u8], r: Reader, out: &mut [u8], text: &mut [u8]) -> Said
     if WORD < recipient {
         return Said::Malformed;
     }
-    let w = channels::unknown_type(recipient as u32, out);
-    Said::Ours(answers::written(text, w, out), end)
+    let mut out = room();
+    let w = replies::unknown_type(recipient as u32, &mut out);
+    Said::Ours(answers::written(line, at, w, &out), end)
 }
 
 // By the function's place in the report.
-pub fn ask(
-    function: usize,
-    line: &[u8],
-    r: Reader,
-    space: &mut [u8],
-    out: &mut [u8],
-    text: &mut [u8],
-) -> Said {
+pub fn ask(function: usize, line: &[u8], r: Reader, space: &[u8], at: usize) -> Said {
     match function {
-        0 => read_kex(line, r, space, text),
-        1 => write_kex(line, r, space, out, text),
-        2 => frame_read(line, r, space, text),
-        3 => frame_write(line, r, space, out, text),
-        4 => open(line, r, space, text),
-        5 => confirmation(line, r, space, text),
-        6 => fail(line, r, space, out, text),
-        7 => unknown_type(line, r, out, text),
+        0 => read_kex(line, r, space, at),
+        1 => write_kex(line, r, space, at),
+        2 => frame_read(line, r, space, at),
+        3 => frame_write(line, r, space, at),
+        4 => open(line, r, space, at),
+        5 => confirmation(line, r, space, at),
+        6 => fail(line, r, space, at),
+        7 => unknown_type(line, r, at),
         _ => Said::Malformed,
     }
 }

@@ -9,108 +9,91 @@ mod tell;
 
 use ask::Said;
 use reader::Reader;
+use reader::room;
 use reader::skip;
+use reader::spread;
 use reader::until;
-use say::front;
+use report::CELLS;
+use report::NO_CELL;
+use tell::ALOUD;
+use tell::word;
+use text::front;
 use wire::answers::Cursor;
 
-// Room for the bytes of a line, for what is written, and for an answer's text.
-const SPACE: usize = 300000;
-
-const OUT: usize = 262176;
-
-const TEXT: usize = 32768;
-
-// How many lines there were, how many of them differ, and where in the piece the last one ended.
-struct Walk {
-    number: u64,
+// What a line came to: the count that its answer belongs to, and 1 where it differs.
+struct Judged {
+    cell: usize,
     wrong: u64,
-    done: usize,
 }
 
-// Where the recorded answer starts, after `= `; 0 where the input does not end there.
-fn answer_at(line: &[u8], end: usize) -> usize {
-    let sign = skip(line, end, 61);
-    let at = skip(line, sign, 32);
-    if sign == end {
-        return 0;
-    }
-    if at == sign {
-        return 0;
-    }
-    at
+// The same, and how many bytes the line took: 0 where there is none any more.
+struct Turn {
+    judged: Judged,
+    taken: u64,
 }
 
-// One line: whether our answer is the recorded one. A line that starts with `#` says what follows.
-fn agrees(
-    line: &[u8],
-    number: u64,
-    space: &mut [u8],
-    out: &mut [u8],
-    text: &mut [u8],
-    counts: &mut [u64],
-) -> bool {
-    if skip(line, 0, 35) != 0 {
-        return true;
+// Where the recorded answer starts, after ` = `, which stands in no word; 0 where there is none.
+fn answer_at(line: &[u8]) -> usize {
+    let mut i = 0;
+    while i < line.len() {
+        let at = word(line, i, b" = ");
+        if at <= line.len() {
+            return at;
+        }
+        i += 1;
     }
+    0
+}
+
+fn unread(number: u64) -> Judged {
+    report::malformed(number);
+    Judged {
+        cell: NO_CELL,
+        wrong: 1,
+    }
+}
+
+// An answer that is not the recorded one is asked for once more, and told aloud.
+fn differs(line: &[u8], number: u64, space: &[u8], function: usize, start: Reader, at: usize) {
+    report::differs(number, Cursor { at }.rest(line));
+    ask::ask(function, line, start, space, ALOUD);
+    report::words(b"\n");
+}
+
+fn judge(line: &[u8], number: u64, space: &[u8]) -> Judged {
     let end = until(line, 0, 32);
     let function = report::place(front(line, end));
     let start = Reader {
         at: skip(line, end, 32),
         used: 0,
     };
-    let said = ask::ask(function, line, start, space, out, text);
+    let at = answer_at(line);
+    let said = ask::ask(function, line, start, space, at);
     let Said::Ours(told, r) = said else {
-        report::malformed(number);
-        return false;
+        return unread(number);
     };
-    let at = answer_at(line, r.at);
-    if at == 0 {
-        report::malformed(number);
-        return false;
+    if word(line, r.at, b"= ") != at {
+        return unread(number);
     }
-    report::count(counts, function, told.sort);
-    let recorded = Cursor { at }.rest(line);
-    let ours = front(text, told.len);
-    if text::same(recorded, ours) {
-        return true;
+    let cell = report::cell_of(function, told.sort);
+    if told.at == line.len() {
+        return Judged { cell, wrong: 0 };
     }
-    report::differs(number, recorded, ours);
-    false
+    differs(line, number, space, function, start, at);
+    Judged { cell, wrong: 1 }
 }
 
-// The whole lines of a piece of the list.
-fn lines(
-    piece: &[u8],
-    w: Walk,
-    space: &mut [u8],
-    out: &mut [u8],
-    text: &mut [u8],
-    counts: &mut [u64],
-) -> Walk {
-    let mut number = w.number;
-    let mut wrong = w.wrong;
-    let mut at = 0;
-    while at < piece.len() {
-        let end = until(piece, at, 10);
-        if end == piece.len() {
-            return Walk {
-                number,
-                wrong,
-                done: at,
-            };
-        }
-        number = std::num::wrapping_add_u64(number, 1);
-        if !agrees(&piece[at..end], number, space, out, text, counts) {
-            wrong = std::num::wrapping_add_u64(wrong, 1);
-        }
-        at = end + 1;
+// A line that starts with `#` says what follows.
+fn answered(line: &[u8], number: u64) -> Judged {
+    if skip(line, 0, 35) != 0 {
+        return Judged {
+            cell: NO_CELL,
+            wrong: 0,
+        };
     }
-    Walk {
-        number,
-        wrong,
-        done: at,
-    }
+    let mut space = room();
+    spread(line, &mut space);
+    judge(line, number, &space)
 }
 
 // How many bytes of the file stand in the piece.
@@ -122,63 +105,61 @@ fn read_at(fd: i32, piece: &mut [u8], offset: u64) -> usize {
     io::count(got, piece)
 }
 
-// What is left where no whole line was: nothing, or a line that has no end.
-fn left(n: usize, w: Walk) -> Walk {
+// What is left where no whole line is: nothing, or a line that has no end.
+fn left(n: usize, number: u64) -> Turn {
     if n == 0 {
-        return w;
+        return Turn {
+            judged: Judged {
+                cell: NO_CELL,
+                wrong: 0,
+            },
+            taken: 0,
+        };
     }
-    let number = std::num::wrapping_add_u64(w.number, 1);
-    report::malformed(number);
-    Walk {
-        number,
-        wrong: std::num::wrapping_add_u64(w.wrong, 1),
-        done: 0,
+    Turn {
+        judged: unread(number),
+        taken: 0,
     }
 }
 
-// Piece by piece, each from the first line that the one before did not have whole. Nothing says that a file ends, so the
-// turns are counted down.
-fn replay(
-    fd: i32,
-    piece: &mut [u8],
-    space: &mut [u8],
-    out: &mut [u8],
-    text: &mut [u8],
-    counts: &mut [u64],
-) -> Walk {
-    let mut w = Walk {
-        number: 0,
-        wrong: 0,
-        done: 0,
-    };
-    let mut offset: u64 = 0;
-    let mut turns: u64 = 1000000;
-    while turns > 0 {
-        let n = read_at(fd, piece, offset);
-        w = lines(front(piece, n), w, space, out, text, counts);
-        if w.done == 0 {
-            return left(n, w);
-        }
-        offset = std::num::wrapping_add_u64(offset, w.done as u64);
-        turns -= 1;
+// The line that starts at the offset.
+fn line_at(fd: i32, offset: u64, number: u64) -> Turn {
+    let mut piece = io::large_buffer();
+    let n = read_at(fd, &mut piece, offset);
+    let end = until(front(&piece, n), 0, 10);
+    if end == n {
+        return left(n, number);
     }
-    w
+    Turn {
+        judged: answered(front(&piece, end), number),
+        taken: std::num::wrapping_add_u64(end as u64, 1),
+    }
+}
+
+// How many lines differ. Nothing says that a file ends, so the lines are counted.
+fn replay(fd: i32, counts: &mut [u64; CELLS]) -> u64 {
+    let mut number: u64 = 1;
+    let mut wrong: u64 = 0;
+    let mut offset: u64 = 0;
+    while number < u64::MAX {
+        let t = line_at(fd, offset, number);
+        let j = t.judged;
+        report::count(counts, j.cell);
+        wrong = std::num::wrapping_add_u64(wrong, j.wrong);
+        if t.taken == 0 {
+            return wrong;
+        }
+        offset = std::num::wrapping_add_u64(offset, t.taken);
+        number += 1;
+    }
+    wrong
 }
 
 fn reports(fd: i32) {
-    let mut piece = io::large_buffer();
-    let mut space = [0u8; SPACE];
-    let mut out = [0u8; OUT];
-    let mut text = [0u8; TEXT];
-    let mut counts = [0u64; 128];
-    let w = replay(fd, &mut piece, &mut space, &mut out, &mut text, &mut counts);
+    let mut counts = [0u64; CELLS];
+    let wrong = replay(fd, &mut counts);
     report::table(&counts);
-    if w.wrong == 0 {
-        report::words(b"all agreed\n");
-    } else {
-        report::value(b"lines that differ: ", w.wrong);
-        report::words(b"\n");
-    }
+    report::end(wrong);
 }
 
 fn main() {

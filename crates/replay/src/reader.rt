@@ -1,9 +1,20 @@
 // The words of a recorded line (oracle/README.md, "A recorded line"), read by a value that moves: how far it is in the
-// line, and how much of the lent space the bytes that were read take.
+// line, and how much of the space the bytes that were read take. The bytes are put there beforehand, those of a whole line
+// at once, so that what reads and asks has the space as `&`.
 ghost use Prim.Native.Nat.{_-_, _≤_, _<_};
 ghost use mathlib.Core.Path.{_≡_};
 ghost use lib.ListN.{length};
 use wire::answers::Place;
+
+// Room for the bytes of a line, and for what our code writes.
+const SPACE: usize = 300000;
+
+// The length is what lending the array as a slice needs.
+pub fn room() -> [u8; SPACE]
+    ensures { λ r. ⌜ 300000 ≡ length r ⌝ }
+{
+    [0; SPACE]
+}
 
 pub struct Reader {
     pub at: usize,
@@ -99,6 +110,16 @@ fn decimal(line: &[u8], at: usize) -> Digits
     Digits { value: n, next: i }
 }
 
+fn nothing(next: usize) -> Piece
+    ensures { λ r. ⌜ r .next ≡ next ⌝ }
+{
+    Piece {
+        byte: 0,
+        count: 0,
+        next,
+    }
+}
+
 // What follows a unit's byte: `*count.`, or nothing.
 fn run(line: &[u8], at: usize, byte: u8) -> Piece
     ensures { λ r. ⌜ at ≤ r .next ⌝ }
@@ -115,11 +136,7 @@ fn run(line: &[u8], at: usize, byte: u8) -> Piece
     let end = d.next;
     let next = skip(line, end, 46);
     if next == end {
-        return Piece {
-            byte,
-            count: 0,
-            next,
-        };
+        return nothing(next);
     }
     Piece {
         byte,
@@ -142,39 +159,17 @@ fn unit(line: &[u8], at: usize) -> Piece
         };
     }
     if line.len() - next < 2 {
-        return Piece {
-            byte: 0,
-            count: 0,
-            next,
-        };
+        return nothing(next);
     }
     let high = digit(line[next]);
     let low = digit(line[next + 1]);
     if 15 < high {
-        return Piece {
-            byte: 0,
-            count: 0,
-            next,
-        };
+        return nothing(next);
     }
     if 15 < low {
-        return Piece {
-            byte: 0,
-            count: 0,
-            next,
-        };
+        return nothing(next);
     }
     run(line, next + 2, (high * 16 + low) as u8)
-}
-
-fn fill(space: &mut [u8], from: usize, to: usize, byte: u8)
-    requires { ⌜ to ≤ length (now space) ⌝ }
-{
-    let mut i = from;
-    while i < to {
-        space[i] = byte;
-        i += 1;
-    }
 }
 
 impl Reader {
@@ -199,15 +194,15 @@ impl Reader {
         )
     }
 
-    // Bytes between quotes, put into the space after those that were read before.
-    pub fn bytes(self, line: &[u8], space: &mut [u8]) -> GotBytes {
+    // Bytes between quotes: where `spread` has put them.
+    pub fn bytes(self, line: &[u8]) -> GotBytes {
         let start = self.used;
         let mut used = start;
         let mut at = skip(line, self.at, 34);
         if at == self.at {
             return GotBytes::Malformed;
         }
-        if space.len() < start {
+        if SPACE < start {
             return GotBytes::Malformed;
         }
         while at < line.len() {
@@ -219,10 +214,9 @@ impl Reader {
             if n == 0 {
                 return GotBytes::Malformed;
             }
-            if space.len() - used < n {
+            if SPACE - used < n {
                 return GotBytes::Malformed;
             }
-            fill(space, used, used + n, u.byte);
             used += n;
             at = u.next;
         }
@@ -245,4 +239,35 @@ fn closed(line: &[u8], end: usize, start: usize, used: usize) -> GotBytes
         },
         Reader { at: next, used },
     )
+}
+
+fn fill(space: &mut [u8], from: usize, to: usize, byte: u8)
+    requires { ⌜ to ≤ length (now space) ⌝ }
+{
+    let mut i = from;
+    while i < to {
+        space[i] = byte;
+        i += 1;
+    }
+}
+
+// The bytes of all words between quotes, one after the other. Where one has no room it is left out, with all that follow.
+pub fn spread(line: &[u8], space: &mut [u8]) {
+    let mut inside = false;
+    let mut used = 0;
+    let mut at = 0;
+    while at < line.len() {
+        let u = unit(line, at);
+        let n = u.count;
+        if line[at] == 34 {
+            inside = !inside;
+        } else if inside {
+            if space.len() - used < n {
+                return;
+            }
+            fill(space, used, used + n, u.byte);
+            used += n;
+        }
+        at = u.next;
+    }
 }

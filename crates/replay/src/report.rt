@@ -1,10 +1,20 @@
 // What is written: each line that differs, and how many answers of each function and sort were replayed.
 use names::Row;
 
-pub const FUNCTIONS: usize = 8;
+const FUNCTIONS: usize = 8;
 
 // Accepted, a refusal's number, or "need".
-pub const SORTS: usize = 16;
+const SORTS: usize = 16;
+
+// The counts: a row for each function, which has the sum and then each sort; and the sum of all.
+const COLUMNS: usize = 17;
+
+const TOTAL: usize = 136;
+
+pub const CELLS: usize = 137;
+
+// For what is not counted.
+pub const NO_CELL: usize = CELLS;
 
 pub fn words(s: &[u8]) {
     io::write_all(1, s);
@@ -20,13 +30,12 @@ pub fn malformed(number: u64) {
     words(b" cannot be read\n");
 }
 
-pub fn differs(number: u64, recorded: &[u8], ours: &[u8]) {
+// Ours is written after it.
+pub fn differs(number: u64, recorded: &[u8]) {
     value(b"line ", number);
     words(b": recorded ");
     words(recorded);
     words(b", ours ");
-    words(ours);
-    words(b"\n");
 }
 
 // The functions' names as columns, in the report's order: looked up and spelled as the tables' names are.
@@ -58,20 +67,35 @@ fn name(function: usize) {
     words(names::spelling(&SPELLINGS, &STARTS, &LENGTHS, function));
 }
 
-pub fn count(counts: &mut [u64], function: usize, sort: u8) {
+pub fn cell_of(function: usize, sort: u8) -> usize {
     let s = names::wide(sort);
     if function < FUNCTIONS && s < SORTS {
-        let i = function * SORTS + s;
-        if i < counts.len() {
-            counts[i] = std::num::wrapping_add_u64(counts[i], 1);
-        }
+        return function * COLUMNS + 1 + s;
+    }
+    NO_CELL
+}
+
+fn one_more(counts: &mut [u64; CELLS], cell: usize) {
+    if cell < CELLS {
+        counts[cell] = std::num::wrapping_add_u64(counts[cell], 1);
     }
 }
 
-fn cell(sort: usize, n: u64) {
-    if n == 0 {
-        return;
+pub fn count(counts: &mut [u64; CELLS], cell: usize) {
+    if cell < TOTAL {
+        one_more(counts, cell);
+        one_more(counts, cell - cell % COLUMNS);
+        one_more(counts, TOTAL);
     }
+}
+
+fn heading(function: usize, n: u64) {
+    name(function);
+    value(b" ", n);
+    words(b" answers:");
+}
+
+fn answers(sort: usize, n: u64) {
     value(b" ", n);
     match sort {
         0 => words(b" ok;"),
@@ -83,39 +107,33 @@ fn cell(sort: usize, n: u64) {
     }
 }
 
-fn sum(counts: &[u64]) -> u64 {
-    let mut n: u64 = 0;
-    let mut i = 0;
-    while i < counts.len() {
-        n = std::num::wrapping_add_u64(n, counts[i]);
-        i += 1;
+fn cell(row: usize, column: usize, n: u64) {
+    if column == 0 {
+        heading(row, n);
+    } else if n != 0 {
+        answers(column - 1, n);
     }
-    n
-}
-
-fn row(function: usize, counts: &[u64]) {
-    name(function);
-    value(b" ", sum(counts));
-    words(b" answers:");
-    let mut s = 0;
-    while s < counts.len() {
-        cell(s, counts[s]);
-        s += 1;
+    if column == SORTS {
+        words(b"\n");
     }
-    words(b"\n");
 }
 
 // A line for each function: how often it gave each sort of answer.
-pub fn table(counts: &[u64]) {
-    let mut f = 0;
-    while f < FUNCTIONS {
-        let from = f * SORTS;
-        if counts.len() < from + SORTS {
-            return;
-        }
-        row(f, &counts[from..from + SORTS]);
-        f += 1;
+pub fn table(counts: &[u64; CELLS]) {
+    let mut i = 0;
+    while i < TOTAL {
+        cell(i / COLUMNS, i % COLUMNS, counts[i]);
+        i += 1;
     }
-    value(b"all ", sum(counts));
+    value(b"all ", counts[TOTAL]);
     words(b" answers\n");
+}
+
+pub fn end(wrong: u64) {
+    if wrong == 0 {
+        words(b"all agreed\n");
+    } else {
+        value(b"lines that differ: ", wrong);
+        words(b"\n");
+    }
 }

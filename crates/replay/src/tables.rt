@@ -2,20 +2,15 @@
 ghost use Rattle.io.specs.Counts.{Counts};
 use crate::reader::GotBytes;
 use crate::reader::Reader;
-use crate::reader::skip;
-use crate::reader::until;
+use crate::tell::word;
 use choice::Side;
 use wire::answers::Cursor;
 use wire::answers::GotWord;
 use wire::answers::Place;
 
-pub enum GotSide {
-    Of(Side, Reader),
-    Malformed,
-}
-
-// The lists' places in the space, and the reader after them. Not whole where the line is malformed.
-pub struct Lists {
+// The side, the lists' places in the space, and the reader after them. Not whole where the line is malformed.
+pub struct Tables {
+    pub side: Side,
     pub places: [Place; 10],
     pub end: Reader,
     pub whole: bool,
@@ -27,37 +22,24 @@ pub fn part<'a>(space: &'a [u8], p: Place) -> &'a [u8] {
     wire::show::show(space, p, &mut no)
 }
 
-pub fn side(line: &[u8], r: Reader) -> GotSide {
-    let start = r.at;
-    let end = until(line, start, 32);
-    let word = part(
-        line,
-        Place {
-            start,
-            len: end - start,
-        },
-    );
-    let next = Reader {
-        at: skip(line, end, 32),
-        used: r.used,
-    };
-    if text::same(word, b"client") {
-        return GotSide::Of(Side::Client, next);
+// The lists follow the space after a side's word.
+pub fn read_tables(line: &[u8], r: Reader) -> Tables {
+    let client = word(line, r.at, b"client ");
+    if client <= line.len() {
+        return read_lists(line, Side::Client, client);
     }
-    if text::same(word, b"server") {
-        return GotSide::Of(Side::Server, next);
-    }
-    GotSide::Malformed
+    read_lists(line, Side::Server, word(line, r.at, b"server "))
 }
 
-pub fn read_lists(line: &[u8], r: Reader, space: &mut [u8]) -> Lists {
+fn read_lists(line: &[u8], side: Side, at: usize) -> Tables {
     let mut places = [Place { start: 0, len: 0 }; 10];
-    let mut end = r;
+    let mut end = Reader { at, used: 0 };
     let mut i = 0;
     while i < 10 {
-        let got = end.bytes(line, space);
+        let got = end.bytes(line);
         let GotBytes::Bytes(p, next) = got else {
-            return Lists {
+            return Tables {
+                side,
                 places,
                 end,
                 whole: false,
@@ -67,7 +49,8 @@ pub fn read_lists(line: &[u8], r: Reader, space: &mut [u8]) -> Lists {
         end = next;
         i += 1;
     }
-    Lists {
+    Tables {
+        side,
         places,
         end,
         whole: rows(places[7]) & rows(places[9]),

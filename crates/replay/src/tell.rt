@@ -1,43 +1,62 @@
-// Our answers as a recorded line tells them. Where the text has no room a piece is left out, and the answers then differ.
+// Our answer in the words of a recorded line, piece by piece: each piece is held to what stands in the line, or written out.
+// `at` is how far the line says the same, or one of two places past every line, which stay what they are.
 ghost use Prim.Native.Nat.{_≤_, _<_};
 ghost use lib.ListN.{length};
 use answer::Refusal;
-use lists::after;
-use put::put_bytes;
+
+// The line said something else.
+const DIFFERS: usize = 18446744073709551615;
+
+// Nothing is held to the line: the answer is told aloud.
+pub const ALOUD: usize = 18446744073709551614;
 
 // What a count of answers is kept by: 0 for accepted, the refusal's number, or this.
 pub const NEED: u8 = 15;
 
-// The text's end, and the sort of the answer.
+// Where the answer ends in the line, and its sort.
 pub struct Told {
-    pub len: usize,
+    pub at: usize,
     pub sort: u8,
 }
 
-pub fn word(text: &mut [u8], at: usize, x: &[u8]) -> usize {
-    after(put_bytes(text, at, x), at)
+pub fn word(line: &[u8], at: usize, x: &[u8]) -> usize {
+    if at == ALOUD {
+        io::write_all(1, x);
+        return ALOUD;
+    }
+    if line.len() < at {
+        return DIFFERS;
+    }
+    if line.len() - at < x.len() {
+        return DIFFERS;
+    }
+    let end = at + x.len();
+    if text::same(&line[at..end], x) {
+        return end;
+    }
+    DIFFERS
 }
 
-pub fn number(text: &mut [u8], at: usize, n: u64) -> usize {
+pub fn number(line: &[u8], at: usize, n: u64) -> usize {
     let mut digits = [0u8; 20];
     let k = io::decimal(n, &mut digits);
-    let p = word(text, at, b" ");
-    word(text, p, &digits[..k])
+    let p = word(line, at, b" ");
+    word(line, p, &digits[..k])
 }
 
-pub fn refused(text: &mut [u8], r: Refusal) -> Told {
-    let p = word(text, 0, b"no");
+pub fn refused(line: &[u8], at: usize, r: Refusal) -> Told {
+    let p = word(line, at, b"no");
     Told {
-        len: number(text, p, names::wide(r.number) as u64),
+        at: number(line, p, names::wide(r.number) as u64),
         sort: r.number,
     }
 }
 
-fn escaped(text: &mut [u8], at: usize, byte: u8) -> usize {
+fn escaped(line: &[u8], at: usize, byte: u8) -> usize {
     let mut digits = [0u8; 16];
     let k = io::hex(names::wide(byte) as u64, 2, &mut digits);
-    let p = word(text, at, b"\\");
-    word(text, p, &digits[..k])
+    let p = word(line, at, b"\\");
+    word(line, p, &digits[..k])
 }
 
 // Printable ASCII but space, `"`, `*` and the backslash.
@@ -49,21 +68,21 @@ fn plain(byte: u8) -> bool {
     }
 }
 
-fn one(text: &mut [u8], at: usize, byte: u8) -> usize {
+fn one(line: &[u8], at: usize, byte: u8) -> usize {
     if plain(byte) {
         let x = [byte];
-        return word(text, at, &x);
+        return word(line, at, &x);
     }
-    escaped(text, at, byte)
+    escaped(line, at, byte)
 }
 
-fn many(text: &mut [u8], at: usize, byte: u8, count: usize) -> usize {
+fn many(line: &[u8], at: usize, byte: u8, count: usize) -> usize {
     let mut digits = [0u8; 20];
     let k = io::decimal(count as u64, &mut digits);
-    let p = escaped(text, at, byte);
-    let q = word(text, p, b"*");
-    let s = word(text, q, &digits[..k]);
-    word(text, s, b".")
+    let p = escaped(line, at, byte);
+    let q = word(line, p, b"*");
+    let s = word(line, q, &digits[..k]);
+    word(line, s, b".")
 }
 
 // Where the run of the byte at `at` ends.
@@ -83,18 +102,18 @@ fn run_end(x: &[u8], at: usize) -> usize
 }
 
 // A run of fewer than 16 is written byte by byte.
-pub fn bytes(text: &mut [u8], at: usize, x: &[u8]) -> usize {
-    let mut p = word(text, at, b" \"");
+pub fn bytes(line: &[u8], at: usize, x: &[u8]) -> usize {
+    let mut p = word(line, at, b" \"");
     let mut i = 0;
     while i < x.len() {
         let end = run_end(x, i);
         if end - i < 16 {
-            p = one(text, p, x[i]);
+            p = one(line, p, x[i]);
             i += 1;
         } else {
-            p = many(text, p, x[i], end - i);
+            p = many(line, p, x[i], end - i);
             i = end;
         }
     }
-    word(text, p, b"\"")
+    word(line, p, b"\"")
 }

@@ -4,9 +4,9 @@ use mathlib.Core.Bool.{Bool, true, false}
 use mathlib.Core.List.{List, [], _∷_}
 use Prim.Native.Nat.{ℕ}
 use Rattle.answer.specs.Answer.{Out, done}
-use Rattle.names.proofs.WriterLaws.{Puts}
-use Rattle.lists.specs.Texts.{nextOr}
-use Rattle.kexinit.proofs.RunLaws.{Ran, run-last, run-more}
+use Rattle.put.proofs.WriterLaws.{Puts}
+use Rattle.put.specs.Runs.{nextOr}
+use Rattle.put.proofs.RunLaws.{Ran, run-last, run-more}
 use Rattle.say.specs.Words.{item, flagItem, yesOrNo}
 
 module _ (out out₁ out₂ out₃ : List ℕ) (at p p₁ p₂ : ℕ) (before label : List ℕ) (value : Out (List ℕ)) (q q₁ q₂ : Out ℕ)

@@ -1,8 +1,8 @@
 -- A settled record as numbers and as words.
-use mathlib.Core.Bool.{Bool, true, false, cond}
+use mathlib.Core.Bool.{Bool, true, false}
 use mathlib.Core.List.{List, [], _∷_, _++_}
 use Prim.Native.Nat.{ℕ}
-use Rattle.answer.specs.Answer.{Out, done}
+use Rattle.answer.specs.Answer.{Out, done, pick}
 use Rattle.text.specs.Literal.{bytes}
 use Rattle.names.specs.Spelled.{spelled}
 use Rattle.names.specs.declared.Kind.{Kind}
@@ -11,7 +11,7 @@ use Rattle.negotiation.specs.declared.Flags.{Flags}
 use Rattle.negotiation.specs.declared.Names.{Names}
 
 abbrev pub bitOf : Bool → ℕ
-bitOf b = cond b 1 0
+bitOf b = pick b 1 0
 
 abbrev pub numbersOf : Names → List ℕ
 numbersOf n =

@@ -1,29 +1,17 @@
 // What was settled, in words and in numbers: for programs to write out, and to compare.
 ghost use mathlib.Core.Path.{_≡_};
-ghost use mathlib.Core.Bool.{cond};
-ghost use lib.ListN.{take};
 ghost use Rattle.names.specs.Spelled.{spelled};
-ghost use Rattle.kexinit.specs.Pieces.{ended, filled};
-ghost use Rattle.say.specs.Words.{numbersOf, keyKind, item, flagItem, algorithms, directions, flagItems, words};
-use lists::after;
+ghost use Rattle.put.specs.Runs.{ended, filled};
+ghost use Rattle.say.specs.Words.{bitOf, numbersOf, keyKind, item, flagItem, algorithms, directions, flagItems, words};
 use names::Kind;
 use names::put_name;
 use negotiation::Flags;
 use negotiation::Names;
+use put::after;
 use put::put_bytes;
 
-// The first n bytes, or all where there are fewer.
-pub fn front(s: &[u8], n: usize) -> &[u8]
-    ensures { λ r. ⌜ now r ≡ take n (now (s .entry)) ⌝ }
-{
-    if n <= s.len() {
-        return &s[..n];
-    }
-    s
-}
-
 fn bit(b: bool) -> u8
-    ensures { λ r. ⌜ r ≡ cond b 1 0 ⌝ }
+    ensures { λ r. ⌜ r ≡ bitOf b ⌝ }
 {
     if b { 1 } else { 0 }
 }

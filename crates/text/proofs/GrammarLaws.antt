@@ -6,6 +6,7 @@ use Prim.Native.Nat.{ℕ, _≤_, _+_, _-_}
 use native.Mathlib.Omega.{arith}
 use lib.Dec.{leb}
 use borrow.Author.Tests.{leb-true, le-leb}
+use Rattle.answer.specs.Answer.{pick}
 use Rattle.text.specs.Utf8.{Range, within, rows, Wanted, bad, more, opened, next, octets, utf8}
 use Rattle.text.specs.Grammar.{Matches, end, byte, Octets, empty, char}
 use Rattle.text.proofs.TableLaws.{alike, count, span}
@@ -81,7 +82,7 @@ found b row [] e = never (cc)
 found b row ([] ∷ rs) e = later [] (found b row rs e)
 found b row ((r ∷ x) ∷ rs) e = first (within r b) refl e (λ p. found b row rs p)
   where
-    first : (t : Bool) → within r b ≡ t → elim t [ true ↦ more x | false ↦ opened rs b ] ≡ more row → (opened rs b ≡ more row → Found b row rs) → Found b row ((r ∷ x) ∷ rs)
+    first : (t : Bool) → within r b ≡ t → pick t (more x) (opened rs b) ≡ more row → (opened rs b ≡ more row → Found b row rs) → Found b row ((r ∷ x) ∷ rs)
     first true q p k = by r q (List·Memᴰ·head {x = r ∷ x} (cc))
     first false q p k = later (r ∷ x) (k p)
 
@@ -95,7 +96,7 @@ module _ (b : ℕ) (s : List ℕ) (more-of : (row : List Range) → octets (more
   char-of bad q e = absurd (not-bad s e)
   char-of (more row) q e = elim (found b row rows q) [ by r i m ↦ whole m (onto i (more-of row e)) ]
 
-  byte-of : (r : Range) (row : List Range) (t : Bool) → within r b ≡ t → octets (elim t [ true ↦ more row | false ↦ bad ]) s ≡ true → Rest (r ∷ row) (b ∷ s)
+  byte-of : (r : Range) (row : List Range) (t : Bool) → within r b ≡ t → octets (pick t (more row) bad) s ≡ true → Rest (r ∷ row) (b ∷ s)
   byte-of r row true q e = onto q (more-of row e)
   byte-of r row false q e = absurd (not-bad s e)
 

@@ -1,4 +1,4 @@
--- Laws of bytes compared, and of US-ASCII. Assumes nothing.
+-- Laws of bytes compared, of the first of them, and of US-ASCII. Assumes nothing.
 use mathlib.Core.Bool.{Bool, true, false, _&&_, and-assoc, and-true, and-false}
 use mathlib.Core.List.{List, [], _∷_, _++_}
 use mathlib.Core.Path.{_≡_, refl, sym, _∙_, ap}
@@ -6,7 +6,8 @@ use Prim.Native.Nat.{ℕ, suc, max, _<_}
 use native.Mathlib.Omega.{arith}
 use borrow.Author.Tests.{ltb-true, lt-ltb, eqb-true, eq-eqb}
 use lib.Dec.{eqb, ltb}
-use lib.ListN.{length}
+use lib.ListN.{length, take}
+use lib.Seq.{take-all}
 use Rattle.answer.proofs.Laws.{never, and-left, and-right}
 use Rattle.text.specs.Same.{same, highest, ascii}
 
@@ -73,3 +74,7 @@ pub ascii-append : (s t : List ℕ) → ascii (s ++ t) ≡ (ascii s && ascii t)
 unfolding ascii
 ascii-append [] t = refl
 ascii-append (b ∷ s) t = rw (ascii-append s t) (sym (and-assoc (ltb b 128) (ascii s) (ascii t)))
+
+-- the first n of fewer are all
+pub front-all : (s : List ℕ) (n : ℕ) → length s < n → s ≡ take n s
+front-all s n h = sym (take-all n s (omega arith))

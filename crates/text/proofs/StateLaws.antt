@@ -1,11 +1,12 @@
 -- The states of the walk do what the rows say. Assumes nothing.
-use mathlib.Core.Bool.{Bool, true, false, cond}
+use mathlib.Core.Bool.{Bool, true, false}
 use mathlib.Core.List.{List, [], _∷_, map, tail}
 use mathlib.Core.Path.{_≡_, refl, sym, _∙_}
 use Prim.Native.Nat.{ℕ, zero, suc, zero-le, _<_, _≤_, _+_}
 use native.Mathlib.Omega.{arith}
 use lib.Dec.{eqb, eqb·suc-zero}
 use lib.ListN.{getD, List·getD-eq-default}
+use Rattle.answer.specs.Answer.{pick}
 use Rattle.text.specs.Utf8.{Range, Wanted, bad, more, within, opened, rows, next, between}
 use Rattle.text.specs.States.{states, wanted}
 use Rattle.text.proofs.TableLaws.{count, span}
@@ -14,13 +15,13 @@ use Rattle.text.proofs.TableLaws.{count, span}
 pub opens-by : (k i n : ℕ) → map (opened rows) (count i n) ≡ map (λ b. wanted k) (count i n) → (b : ℕ) → i ≤ b → b < i + n → wanted k ≡ opened rows b
 opens-by k i n e b h l = sym (span (opened rows) (wanted k) i n e b h l)
 
-taken : (t : Bool) (k : ℕ) (row : List Range) → wanted k ≡ more row → wanted (cond t k 8) ≡ elim t [ true ↦ more row | false ↦ bad ]
+taken : (t : Bool) (k : ℕ) (row : List Range) → wanted k ≡ more row → wanted (pick t k 8) ≡ pick t (more row) bad
 unfolding wanted states
 taken true k row e = e
 taken false k row e = refl
 
 -- state n wants a range, and then what state k wants
-pub goes-on : {r : Range} {row : List Range} {state then : ℕ} (n k b : ℕ) → wanted n ≡ more (r ∷ row) → wanted k ≡ more row → state ≡ n → then ≡ cond (within r b) k 8 → wanted then ≡ next (wanted state) b
+pub goes-on : {r : Range} {row : List Range} {state then : ℕ} (n k b : ℕ) → wanted n ≡ more (r ∷ row) → wanted k ≡ more row → state ≡ n → then ≡ pick (within r b) k 8 → wanted then ≡ next (wanted state) b
 unfolding next
 goes-on {r} {row} n k b w e s q = rw (q, s, w) (taken (within r b) k row e)
 

@@ -3,6 +3,7 @@ use mathlib.Core.Bool.{Bool, true, false, _&&_}
 use mathlib.Core.List.{List, [], _∷_}
 use Prim.Native.Nat.{ℕ}
 use lib.Dec.{leb}
+use Rattle.answer.specs.Answer.{pick}
 
 -- %xLOW-HIGH
 pub record Range : Type 0 where
@@ -43,13 +44,13 @@ pub data Wanted : Type 0 where
 abbrev pub opened : List (List Range) → ℕ → Wanted
 opened [] b = bad
 opened ([] ∷ rs) b = opened rs b
-opened ((r ∷ row) ∷ rs) b = elim (within r b) [ true ↦ more row | false ↦ opened rs b ]
+opened ((r ∷ row) ∷ rs) b = pick (within r b) (more row) (opened rs b)
 
 -- one byte on
 unfoldable pub next : Wanted → ℕ → Wanted
 next bad b = bad
 next (more []) b = opened rows b
-next (more (r ∷ row)) b = elim (within r b) [ true ↦ more row | false ↦ bad ]
+next (more (r ∷ row)) b = pick (within r b) (more row) bad
 
 abbrev pub between : Wanted → Bool
 between bad = false

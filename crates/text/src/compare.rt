@@ -1,8 +1,10 @@
-// Bytes compared, and the highest of them. Neither loop has an exit on the way, so that both are vectorised.
+// Bytes compared, the highest of them, and the first of them. Neither loop has an exit on the way, so that both are
+// vectorised.
 ghost use mathlib.Core.Path.{_≡_};
 ghost use mathlib.Core.Bool.{_&&_};
 ghost use Prim.Native.Nat.{max};
 ghost use lib.Dec.{eqb};
+ghost use lib.ListN.{take};
 ghost use Rattle.text.specs.Same.{same as sameBytes, highest as highestByte};
 
 fn still(ok: bool, a: u8, b: u8) -> bool
@@ -43,4 +45,14 @@ pub fn highest(s: &[u8]) -> u8
         i += 1;
     }
     m
+}
+
+// The first `n`, or all where there are fewer.
+pub fn front(s: &[u8], n: usize) -> &[u8]
+    ensures { λ r. ⌜ now r ≡ take n (now (s .entry)) ⌝ }
+{
+    if n <= s.len() {
+        return &s[..n];
+    }
+    s
 }

@@ -1,7 +1,7 @@
 // UTF-8 (RFC 3629), byte by byte. A state is the number of what a character still wants (`wanted`): 0 between two
 // characters, 8 once the bytes are no UTF-8.
 ghost use mathlib.Core.Path.{_≡_};
-ghost use mathlib.Core.Bool.{cond};
+ghost use Rattle.answer.specs.Answer.{pick};
 ghost use Rattle.text.specs.Utf8.{utf8 as wellFormed, next, opened, rows, _to_, within};
 ghost use Rattle.text.specs.States.{wanted};
 
@@ -24,7 +24,7 @@ fn opens(b: u8) -> u8
 }
 
 fn inside(b: u8, low: u8, high: u8, then: u8) -> u8
-    ensures { λ r. ⌜ r ≡ cond (within (low to high) b) then 8 ⌝ }
+    ensures { λ r. ⌜ r ≡ pick (within (low to high) b) then 8 ⌝ }
 {
     if (low <= b) & (b <= high) { then } else { 8 }
 }

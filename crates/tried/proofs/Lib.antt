@@ -1,1 +1,2 @@
 pub mod TriedLaws
+pub mod AddedLaws

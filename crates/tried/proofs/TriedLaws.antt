@@ -1,32 +1,38 @@
 -- P1 to P12 of document 01, by computation: `none-wrong`, below. Assumes nothing.
 use mathlib.Core.Path.{_≡_, refl}
-use mathlib.Core.List.{List, [], _∷_, _++_}
+use mathlib.Core.List.{List, [], _∷_, _++_, flatten}
 use Rattle.answer.specs.Answer.{_>>=_}
 use Rattle.answer.proofs.Laws.{split}
 use Rattle.put.specs.Written.{word as encoded}
 use Rattle.text.specs.Same.{same, ascii}
 use Rattle.text.specs.Utf8.{utf8, octets, next, rows as utf8Rows}
 use Rattle.wire.specs.Fields.{byte, word, run, string, end}
-use Rattle.wire.specs.Names.{cut, join, standing, judged, judgedList, nameList}
+use Rattle.commas.specs.Cut.{cut, join}
+use Rattle.namelist.specs.Judged.{standing, judged, judgedList, nameList}
 use Rattle.names.specs.Tables.{namesOf, allNames, kexNames, keyNames, certificateNames, cipherNames, macNames, compressionNames, needMac}
 use Rattle.names.specs.Lookup.{placeFrom, numberOf}
-use Rattle.choice.specs.Choice.{first, listed, firstShared, chosen, bothFirst}
+use Rattle.choice.specs.Choice.{first, listed, firstShared, chosen, bothFirst, kept}
 use Rattle.choice.specs.Rows.{rowSpelled}
-use Rattle.preferred.specs.Tables.{all, below, eachRow, goodList, goodLists, goodRows, goodTables, agrees, consistent, rowsOf, valid}
-use Rattle.preferred.specs.Own.{member, kept, without, kexWritten, kexChosen, ofKind, held, added, certificates, keysOf}
-use Rattle.framing.specs.Clear.{paddingLength, judgedLength, judgedPadding, counted, frame, packetOf, announced, paddingOf, packetAt, opened, readPacket}
-use Rattle.channels.specs.Open.{offer as granted, exact, channelType, readOpen}
-use Rattle.negotiation.specs.Written.{listField, kexInit}
-use Rattle.negotiation.specs.Read.{offer, number, needsMac, settleMac, strict, isCertificate, keyNumber, settled, readKex}
-use Rattle.tried.specs.Rows.{Row, wrong, packetRows, shortRows, ctrRows, chacha20Rows, reversedRows, unsharedRows, ignoredRows, keptRows, rows}
+use Rattle.judging.specs.Tables.{all, below, eachKeyRow, goodList, goodLists, goodRowTable, goodTables, agrees, consistent, mayLend, valid}
+use Rattle.filters.specs.Picked.{member, without, ofKind, held, added, certificates}
+use Rattle.preferred.specs.Own.{kexWritten, kexChosen, keysOf}
+use Rattle.framing.specs.Clear.{paddingLength, judgedLength, judgedPadding, counted, frame, packetOf, announced, paddingOf, packetAt, wholePacket, readPacket}
+use Rattle.replies.specs.Confirmation.{offer as granted}
+use Rattle.layouts.specs.Types.{exact, channelType}
+use Rattle.channels.specs.Open.{readOpen}
+use Rattle.negotiation.specs.KexInit.{textField, encoded as encodedFields, offer}
+use Rattle.negotiation.specs.Written.{kexInit}
+use Rattle.negotiation.specs.Read.{number, needsMac, settleMac, strict, isCertificate, keyNumber, settled, readKex}
+use Rattle.tried.specs.Row.{Row, wrong}
+use Rattle.tried.specs.Rows.{packetRows, shortRows, ctrRows, chacha20Rows, reversedRows, unsharedRows, ignoredRows, keptRows, rows}
 
 -- opens every definition on the way from the tried bytes to the answers
 computed : Unit {0}
-unfolding same _>>=_ encoded ascii utf8 octets next utf8Rows byte word run string end cut join standing judged judgedList nameList namesOf allNames kexNames keyNames certificateNames cipherNames macNames compressionNames needMac placeFrom numberOf first listed firstShared chosen bothFirst rowSpelled all below eachRow goodList goodLists goodRows goodTables agrees consistent rowsOf valid member kept without kexWritten kexChosen ofKind held added certificates keysOf paddingLength judgedLength judgedPadding counted frame packetOf announced paddingOf packetAt opened readPacket granted exact channelType readOpen listField kexInit offer number needsMac settleMac strict isCertificate keyNumber settled readKex
+unfolding same _>>=_ encoded ascii utf8 octets next utf8Rows byte word run string end cut join standing judged judgedList nameList namesOf allNames kexNames keyNames certificateNames cipherNames macNames compressionNames needMac placeFrom numberOf first listed firstShared chosen bothFirst rowSpelled all below eachKeyRow goodList goodLists goodRowTable goodTables agrees consistent mayLend valid member kept without kexWritten kexChosen ofKind held added certificates keysOf paddingLength judgedLength judgedPadding counted frame packetOf announced paddingOf packetAt wholePacket readPacket granted exact channelType readOpen textField encodedFields flatten kexInit offer number needsMac settleMac strict isCertificate keyNumber settled readKex
 computed = tt
 
 -- By its type, so that the check computes a part's wrong rows once and can show them.
-nothing : _≡_ {A = List Row} [] []
+pub nothing : _≡_ {A = List Row} [] []
 nothing = refl
 
 packet-fine : wrong packetRows ≡ []
@@ -62,7 +68,7 @@ unfolding computed keptRows
 kept-fine = nothing
 
 -- none wrong here and none there
-both : (a b : List Row) → wrong a ≡ [] → wrong b ≡ [] → wrong (a ++ b) ≡ []
+pub both : (a b : List Row) → wrong a ≡ [] → wrong b ≡ [] → wrong (a ++ b) ≡ []
 both [] b p q = q
 both (r ∷ a) b p q = split (same (r .answer) (r .expected)) (λ t. rw t (both a b (rw t at p) q)) (λ t. let z : wrong (r ∷ a) ≡ r ∷ wrong a = rw t in cc)
 

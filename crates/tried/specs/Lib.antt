@@ -1,2 +1,9 @@
+pub mod Row
 pub mod Trials
 pub mod Rows
+pub mod TableRows
+pub mod LongRows
+pub mod RoomRows
+pub mod PlaceRows
+pub mod NameRows
+pub mod AddedRows

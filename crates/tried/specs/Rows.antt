@@ -1,28 +1,12 @@
 -- P1 to P12 of document 01, "Tried bytes", as one table: what was tried, and document 01's answer. Each answer that a
 -- constant could give has its contrast beside it.
-use mathlib.Core.Bool.{Bool, true, false}
 use mathlib.Core.List.{List, [], _∷_, _++_}
 use Prim.Native.Nat.{ℕ}
-use Prim.Native.String.{String}
 use lib.ListN.{replicate}
-use Rattle.answer.specs.Answer.{pick}
 use Rattle.text.specs.Literal.{bytes}
-use Rattle.text.specs.Same.{same}
 use Rattle.negotiation.specs.Written.{kexInit}
+use Rattle.tried.specs.Row.{Row, row}
 use Rattle.tried.specs.Trials.{refuses, needs, gives, writes, reads, opens, client, server, cookie, kexInitOf, settlesMacs, ignoresGuess}
-
-pub record Row : Type 0 where
-  pub tried : String
-  pub answer : List ℕ
-  pub expected : List ℕ
-
-abbrev row : String → List ℕ → List ℕ → Row
-row tried answer expected = record { tried = tried; answer = answer; expected = expected }
-
--- the rows whose answer is not document 01's
-abbrev pub wrong : List Row → List Row
-wrong [] = []
-wrong (r ∷ rs) = pick (same (r .answer) (r .expected)) (wrong rs) (r ∷ wrong rs)
 
 -- P10's body: `session`, 0, 2097152 and a maximum packet of 256 times m; then what follows
 abbrev session : ℕ → List ℕ → List ℕ

@@ -1,20 +1,19 @@
 -- How each tried input of document 01 is put to the definitions, and what is looked at in the answer.
 use mathlib.Core.Bool.{Bool, true, false}
-use mathlib.Core.List.{List, [], _∷_, _++_}
+use mathlib.Core.List.{List, [], _∷_}
 use Prim.Native.Nat.{ℕ}
 use lib.ListN.{length, getD, replicate}
 use Rattle.answer.specs.Answer.{Out, refused, done, pick}
-use Rattle.put.specs.Written.{word}
 use Rattle.choice.specs.declared.Side.the-variants.{Client, Server}
 use Rattle.framing.specs.declared.Counters.{Counters}
 use Rattle.framing.specs.Clear.{Read, need, packet, packetOf, readPacket}
-use Rattle.channels.specs.declared.ChannelType.{ChannelType}
-use Rattle.channels.specs.declared.ChannelType.the-variants.{Session, X11, DirectTcpip, DirectStreamLocal, ForwardedTcpIp, ForwardedStreamLocal, AgentForward, Unknown}
+use Rattle.layouts.specs.declared.ChannelType.{ChannelType}
+use Rattle.layouts.specs.declared.ChannelType.the-variants.{Session, X11, DirectTcpip, DirectStreamLocal, ForwardedTcpIp, ForwardedStreamLocal, AgentForward, Unknown}
 use Rattle.channels.specs.declared.OpenChannelMessage.{OpenChannelMessage}
 use Rattle.channels.specs.Open.{readOpen}
-use Rattle.preferred.specs.Tables.{Tables, tables}
+use Rattle.judging.specs.Tables.{Tables, tables}
 use Rattle.negotiation.specs.declared.Names.{Names}
-use Rattle.negotiation.specs.Written.{listField}
+use Rattle.negotiation.specs.KexInit.{encoded}
 use Rattle.negotiation.specs.Read.{readKex}
 
 -- An answer as numbers, so that two can be compared: what it is, then its values.
@@ -27,11 +26,11 @@ needs n = 1 ∷ n ∷ []
 abbrev pub gives : List ℕ → List ℕ
 gives values = 2 ∷ values
 
-abbrev answered : {A : Type 0} → (A → List ℕ) → Out A → List ℕ
+abbrev pub answered : {A : Type 0} → (A → List ℕ) → Out A → List ℕ
 answered f (refused r) = refuses (r .number)
 answered f (done a) = f a
 
-abbrev flag : Bool → ℕ
+abbrev pub flag : Bool → ℕ
 flag true = 1
 flag false = 0
 
@@ -84,19 +83,21 @@ cookie = replicate 16 7
 -- a KEXINIT with any names and any follows byte (RFC 4253 section 7.1), which our own writer never has
 abbrev pub kexInitOf : List (List ℕ) → List (List ℕ) → List (List ℕ) → List (List ℕ) → List (List ℕ) → ℕ → List ℕ
 kexInitOf kex key cipher mac compression follows =
-    20
-    ∷ (cookie
-    ++ (listField kex
-    ++ (listField key
-    ++ (listField cipher
-    ++ (listField cipher
-    ++ (listField mac
-    ++ (listField mac
-    ++ (listField compression
-    ++ (listField compression
-    ++ (word 0
-    ++ (word 0
-    ++ (follows ∷ word 0))))))))))))
+    encoded cookie
+    (record {
+      kex = kex;
+      key = key;
+      clientCipher = cipher;
+      serverCipher = cipher;
+      clientMac = mac;
+      serverMac = mac;
+      clientCompression = compression;
+      serverCompression = compression;
+      clientLanguages = [];
+      serverLanguages = [];
+      follows = follows;
+      reserved = 0;
+    })
 
 -- a peer's KEXINIT read by a side: the MACs settled on, client to server and server to client
 abbrev pub settlesMacs : Tables → List ℕ → List ℕ

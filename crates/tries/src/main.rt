@@ -1,16 +1,16 @@
 // The tried bytes of document 01 ("Tried bytes") through the code itself, a line for each, held to the file stdout: those
 // that are not in the proved table, and P1 to P10 once more.
 use answer::Refusal;
-use channels::ChannelType;
 use channels::GotOpen;
 use channels::OpenChannelMessage;
 use choice::Side;
 use framing::Counters;
 use framing::GotPacket;
 use framing::Sealed;
+use layouts::ChannelType;
 use negotiation::GotNames;
 use put::Put;
-use say::front;
+use text::front;
 
 // "Payload 262,168: 4", and the packet of the largest payload.
 const TOO_LARGE: usize = 262168;
@@ -203,7 +203,7 @@ fn openings() {
 fn unknown_type() {
     let mut out = [0u8; 64];
     words(b"failure for an unknown type");
-    let w = channels::unknown_type(258, &mut out);
+    let w = replies::unknown_type(258, &mut out);
     match w {
         Put::Next(n) => {
             value(b": ", n as u64);

@@ -64,7 +64,7 @@ module _ (s : List ℕ) (i : ℕ) where
 pub rest-part : (s : List ℕ) (i : ℕ) → take (length s - i) (drop i s) ≡ drop i s
 rest-part s i = take-all (length s - i) (drop i s) (simp length-drop (omega arith))
 
-pub rest-past : (s : List ℕ) (i : ℕ) → length s < i → take 0 s ≡ drop i s
-rest-past s i h = sym (drop-of-length-le s {i = i} (omega arith))
+pub rest-past : (s : List ℕ) (i : ℕ) → length s < i → take (length s - length s) (drop (length s) s) ≡ drop i s
+rest-past s i h = rest-part s (length s) ∙ rw (drop-of-length-le s {i = length s} (omega arith), drop-of-length-le s {i = i} (omega arith))
 
 pub ruleset field-laws = (byte-past, byte-at, word-short, word-late, word-at, end-past, end-before, arith)

@@ -17,7 +17,7 @@ use Rattle.wire.specs.declared.answers.NextName.the-variants.{Name, NoMo
 use Rattle.wire.specs.declared.answers.Place.{Place}
 use Rattle.wire.specs.declared.answers.Cursor.{Cursor}
 use Rattle.wire.specs.Fields.{At, Run}
-use Rattle.wire.specs.Names.{Next, none, name}
+use Rattle.wire.specs.Walk.{Next, none, name}
 use Rattle.wire.specs.Answers.{gotByte, gotWord, gotText, checked, nextOf}
 
 pub byte-unique : (s : List ℕ) (a b : GotByte) → gotByte s a ≡ gotByte s b → a ≡ b

@@ -15,7 +15,7 @@ use Rattle.wire.specs.declared.answers.Checked.the-variants.{Fine, Refus
 use Rattle.wire.specs.declared.answers.NextName.{NextName}
 use Rattle.wire.specs.declared.answers.NextName.the-variants.{Name, NoMore}
 use Rattle.wire.specs.Fields.{At, Run, here}
-use Rattle.wire.specs.Names.{Next, none, name}
+use Rattle.wire.specs.Walk.{Next, none, name}
 use Rattle.wire.specs.Shown.{part}
 
 abbrev pub gotByte : List ℕ → GotByte → Out (ℕ × At)

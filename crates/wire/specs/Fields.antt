@@ -47,7 +47,7 @@ run c = do
   _ ← guard 2 (leb n (length (c′ .left)))
   done (record { place = record { start = c′ .at; len = n }; bytes = take n (c′ .left) }, skip n c′)
 
--- string, as the Rust decodes one: it is UTF-8 (RFC 3629)
+-- string, as the Rust decodes one: it is UTF-8 (RFC 3629), where RFC 4251 takes any bytes (docs/DIFFERENCES.md, C4, R20)
 unfoldable pub string : At → Out (Run × At)
 string c = do
   (t, c′) ← run c

@@ -1,4 +1,4 @@
 pub mod Fields
-pub mod Names
+pub mod Walk
 pub mod Shown
 pub mod Answers

@@ -1,6 +1,7 @@
 // What the cursor answers: the value with the next cursor, or the refusal. specs/Answers.antt says what each means.
 ghost use mathlib.Core.Path.{_≡_};
 ghost use Rattle.wire.specs.Answers.{whyNoByte, whyNoWord, whyNoText, whyNotFine};
+use answer::NOTHING;
 use answer::Refusal;
 use answer::refuse;
 
@@ -47,7 +48,7 @@ impl GotByte {
         ensures { λ r. ⌜ r ≡ whyNoByte self ⌝ }
     {
         match self {
-            GotByte::Byte(_, _) => refuse(0),
+            GotByte::Byte(_, _) => refuse(NOTHING),
             GotByte::Refused(r) => r,
         }
     }
@@ -58,7 +59,7 @@ impl GotWord {
         ensures { λ r. ⌜ r ≡ whyNoWord self ⌝ }
     {
         match self {
-            GotWord::Word(_, _) => refuse(0),
+            GotWord::Word(_, _) => refuse(NOTHING),
             GotWord::Refused(r) => r,
         }
     }
@@ -69,7 +70,7 @@ impl GotText {
         ensures { λ r. ⌜ r ≡ whyNoText self ⌝ }
     {
         match self {
-            GotText::Text(_, _) => refuse(0),
+            GotText::Text(_, _) => refuse(NOTHING),
             GotText::Refused(r) => r,
         }
     }
@@ -80,7 +81,7 @@ impl Checked {
         ensures { λ r. ⌜ r ≡ whyNotFine self ⌝ }
     {
         match self {
-            Checked::Fine => refuse(0),
+            Checked::Fine => refuse(NOTHING),
             Checked::Refused(r) => r,
         }
     }

@@ -1,16 +1,24 @@
 // Bytes, numbers and strings, read at a cursor. Every position gets an answer, also past the end and near the largest
 // usize: what is left is measured by differences, never by a sum that could wrap.
 ghost use mathlib.Core.Path.{_≡_};
-ghost use lib.ListN.{drop};
+ghost use Prim.Native.Nat.{_+_, min};
+ghost use denote.Ref.{ptr};
+ghost use lib.ListN.{length, drop};
 ghost use Rattle.wire.specs.Fields.{here, byte, word, run, string, end, bigEndian};
-ghost use Rattle.wire.specs.Answers.{gotByte, gotWord, gotText, checked};
+ghost use Rattle.wire.specs.Walk.{nextName};
+ghost use Rattle.wire.specs.Answers.{gotByte, gotWord, gotText, checked, nextOf};
 use crate::answers::Checked;
 use crate::answers::Cursor;
 use crate::answers::GotByte;
 use crate::answers::GotText;
 use crate::answers::GotWord;
+use crate::answers::NextName;
 use crate::answers::Place;
+use answer::NOT_UTF8;
+use answer::PAST_END;
+use answer::TRAILING;
 use answer::refuse;
+use commas::name_end;
 
 fn big_endian(a: u8, b: u8, c: u8, d: u8) -> u32
     ensures { λ r. ⌜ r ≡ bigEndian a b c d ⌝ }
@@ -24,7 +32,7 @@ impl Cursor {
     {
         let at = self.at;
         if s.len() <= at {
-            return GotByte::Refused(refuse(2));
+            return GotByte::Refused(refuse(PAST_END));
         }
         GotByte::Byte(s[at], Cursor { at: at + 1 })
     }
@@ -34,10 +42,10 @@ impl Cursor {
     {
         let at = self.at;
         if s.len() < 4 {
-            return GotWord::Refused(refuse(2));
+            return GotWord::Refused(refuse(PAST_END));
         }
         if s.len() - 4 < at {
-            return GotWord::Refused(refuse(2));
+            return GotWord::Refused(refuse(PAST_END));
         }
         let n = big_endian(s[at], s[at + 1], s[at + 2], s[at + 3]);
         GotWord::Word(n, Cursor { at: at + 4 })
@@ -54,7 +62,7 @@ impl Cursor {
         let start = c.at;
         let len = n as usize;
         if s.len() - start < len {
-            return GotText::Refused(refuse(2));
+            return GotText::Refused(refuse(PAST_END));
         }
         GotText::Text(Place { start, len }, Cursor { at: start + len })
     }
@@ -72,7 +80,7 @@ impl Cursor {
         if text::utf8(&s[start..end]) {
             return GotText::Text(p, c);
         }
-        GotText::Refused(refuse(3))
+        GotText::Refused(refuse(NOT_UTF8))
     }
 
     // Nothing is left: `ensure_end` of the Rust. Past the end nothing is left either.
@@ -82,14 +90,36 @@ impl Cursor {
         if s.len() <= self.at {
             return Checked::Fine;
         }
-        Checked::Refused(refuse(5))
+        Checked::Refused(refuse(TRAILING))
     }
 
-    // What is left, as the part that it is.
-    pub fn rest(self, s: &[u8]) -> &[u8]
-        ensures { λ r. ⌜ now r ≡ drop (self .at) (now (s .entry)) ⌝ }
+    // The next name of a list that is lent whole. A comma at the very end ends the last name and starts none.
+    pub fn name(self, list: &[u8]) -> NextName
+        ensures { λ r. ⌜ nextOf (now (list .entry)) r ≡ nextName (here (now (list .entry)) (self .at)) ⌝ }
     {
         let at = self.at;
-        if at <= s.len() { &s[at..] } else { &s[..0] }
+        if list.len() <= at {
+            return NextName::NoMore;
+        }
+        let end = name_end(list, at);
+        let place = Place {
+            start: at,
+            len: end - at,
+        };
+        if end < list.len() {
+            return NextName::Name(place, Cursor { at: end + 1 });
+        }
+        NextName::Name(place, Cursor { at: end })
+    }
+
+    // What is left, as the part that it is; past the end no byte, at the end.
+    pub fn rest(self, s: &[u8]) -> &[u8]
+        ensures part { λ r. ⌜ now r ≡ drop (self .at) (now (s .entry)) ⌝ }
+        ensures block { λ r. ⌜ ptr r .0 ≡ ptr (s .entry) .0 ⌝ }
+        ensures place { λ r. ⌜ ptr r .1 ≡ ptr (s .entry) .1 + min (self .at) (length (now (s .entry))) ⌝ }
+    {
+        let at = self.at;
+        let len = s.len();
+        if at <= len { &s[at..] } else { &s[len..] }
     }
 }

@@ -2,7 +2,7 @@ use mathlib.Core.Path.{_≡_}
 use Prim.Native.Nat.{_-_, _≤_}
 use borrow.Author.Needs.{needs}
 use lib.ListN.{length, drop, take}
-use Rattle.wire.specs.Names.{cut}
+use Rattle.commas.specs.Cut.{cut}
 use Rattle.choice.specs.Rows.{spellsIn, offered, placeOf}
 use Rattle.choice.proofs.WalkLaws.{own-laws}
 use Rattle.choice.proofs.own_first.Statement.{statement}

@@ -2,7 +2,7 @@ use mathlib.Core.Path.{_≡_}
 use Prim.Native.Nat.{_-_}
 use borrow.Author.Needs.{needs}
 use lib.ListN.{length, drop}
-use Rattle.wire.specs.Names.{cut}
+use Rattle.commas.specs.Cut.{cut}
 use Rattle.choice.specs.Rows.{spellsIn, peerFirst}
 use Rattle.choice.proofs.WalkLaws.{peer-laws}
 use Rattle.choice.proofs.peer_first.Statement.{statement}

@@ -1,6 +1,6 @@
 -- `kexinit::put_ending`: four puts in a row. Assumes nothing.
 use Rattle.kexinit.specs.Pieces.{ending}
-use Rattle.kexinit.proofs.RunLaws.{run-last, run-more}
+use Rattle.put.proofs.RunLaws.{run-last, run-more}
 use borrow.Author.Needs.{needs}
 use Rattle.kexinit.proofs.put_ending.Statement.{statement}
 use Rattle.kexinit.proofs.put_ending.Tie as tie

@@ -1,6 +1,6 @@
 -- `kexinit::put_pieces`: the runs of puts are one run. Assumes nothing.
 use Rattle.kexinit.specs.Pieces.{pieces}
-use Rattle.kexinit.proofs.RunLaws.{run-both}
+use Rattle.put.proofs.RunLaws.{run-both}
 use borrow.Author.Needs.{needs}
 use Rattle.kexinit.proofs.put_pieces.Statement.{statement}
 use Rattle.kexinit.proofs.put_pieces.Tie as tie

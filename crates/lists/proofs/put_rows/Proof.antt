@@ -1,6 +1,6 @@
 -- `lists::put_rows`: each refusal is the definition's first, and what passed them all has room. Assumes nothing.
 use native.Mathlib.Omega.{arith}
-use Rattle.names.proofs.WriterLaws.{refused-put}
+use Rattle.put.proofs.WriterLaws.{refused-put}
 use Rattle.lists.proofs.ListLaws.{list-unnamed, list-long, is-length, list-full, list-put}
 use borrow.Author.Needs.{needs}
 use Rattle.lists.proofs.put_rows.Statement.{statement}

@@ -4,7 +4,7 @@ use Prim.Native.Nat.{_+_, _-_, _≤_}
 use native.Mathlib.Omega.{arith}
 use borrow.Author.Needs.{needs}
 use lib.ListN.{length, drop}
-use Rattle.wire.specs.Names.{join}
+use Rattle.commas.specs.Cut.{join}
 use Rattle.names.specs.Spelled.{rowName}
 use Rattle.lists.specs.Texts.{texts}
 use Rattle.lists.proofs.StoreLaws.{Left, left-all, no-names, names-room, names-on, last-room, last-whole}

@@ -1,16 +1,14 @@
--- `replay::replay`: the turns are counted down, and the lent buffers keep their lengths. Assumes nothing.
-use mathlib.Core.Path.{_≡_}
-use lib.ListN.{length}
+-- `replay::replay`: the lines are counted up. Assumes nothing.
+use Prim.Native.Nat.{_-_}
 use borrow.Author.Needs.{needs}
 use Rattle.replay.proofs.replay.Statement.{statement}
 use Rattle.replay.proofs.replay.Tie as tie
 
 abbrev Inv-loop : tie.InvT-loop
-Inv-loop fd piece₀ space₀ out₀ text₀ counts₀ w₀ offset₀ turns₀ piece space out text counts w offset turns =
-    (length piece ≡ length piece₀) × (length space ≡ length space₀) × (length out ≡ length out₀) × (length text ≡ length text₀) × (length counts ≡ length counts₀)
+Inv-loop fd counts₀ number₀ wrong₀ offset₀ counts number wrong offset = Unit
 
 abbrev μ-loop : tie.MeasureT-loop
-μ-loop fd piece₀ space₀ out₀ text₀ counts₀ w₀ offset₀ turns₀ piece space out text counts w offset turns = turns
+μ-loop fd counts₀ number₀ wrong₀ offset₀ counts number wrong offset = 18446744073709551615 - number
 
 pub replay-spec : {M : Type 1} → statement M
 replay-spec =
@@ -22,19 +20,8 @@ replay-spec =
     (λ c κs. search needs)
     (λ c κs. search needs)
     (λ c κs. search needs)
-    (λ c κs. search needs)
-    (λ c. search needs)
-    (λ c. search needs)
-    (λ c. search needs)
-    (λ c. search needs)
-    (λ c. search needs)
     (λ c. search needs)
     (λ c κs. search needs)
-    (λ c. search needs)
-    (λ c. search needs)
-    (λ c. search needs)
-    (λ c. search needs)
-    (λ c. search needs)
     (λ c. search needs)
     (λ c. search needs)
     (λ c. search needs)

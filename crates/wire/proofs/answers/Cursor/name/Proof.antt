@@ -1,4 +1,4 @@
-use Rattle.wire.proofs.ListLaws.{name-laws}
+use Rattle.wire.proofs.WalkLaws.{name-laws}
 use borrow.Author.Needs.{needs}
 use Rattle.wire.proofs.answers.Cursor.name.Statement.{statement}
 use Rattle.wire.proofs.answers.Cursor.name.Tie as tie

@@ -1,5 +1,0 @@
-use Rattle.channels.proofs.open.tcp_type.Statement.{statement}
-use Rattle.channels.proofs.open.tcp_type.Tie as tie
-
-pub tcp-type-spec : {M : Type 1} → statement M
-tcp-type-spec = tie.close (tie.spec (λ c. cc) (λ c. cc))

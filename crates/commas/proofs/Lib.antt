@@ -1,0 +1,3 @@
+pub mod EndLaws
+mod PlainLaws
+pub mod CutLaws

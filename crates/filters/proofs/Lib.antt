@@ -1,0 +1,3 @@
+pub mod MadeLaws
+pub mod FitLaws
+pub mod RoomLaws

@@ -1,0 +1,3 @@
+pub mod PlaceLaws
+mod StepLaws
+pub mod TypeLaws

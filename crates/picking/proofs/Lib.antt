@@ -1,0 +1,3 @@
+pub mod PickLaws
+pub mod StepLaws
+pub mod UniqueLaws

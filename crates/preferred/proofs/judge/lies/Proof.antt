@@ -1,9 +1,0 @@
-use borrow.Author.Needs.{needs}
-use Rattle.preferred.proofs.judge.lies.Statement.{statement}
-use Rattle.preferred.proofs.judge.lies.Tie as tie
-
-returns : tie.Need-returns
-returns c = rw (c .wide .ensures .0)
-
-pub lies-spec : {M : Type 1} → statement M
-lies-spec = tie.close (tie.spec (λ c κs. search needs) returns)

@@ -1,0 +1,4 @@
+pub mod ConfirmationLaws
+pub mod FailureLaws
+pub mod StepLaws
+mod WriteLaws

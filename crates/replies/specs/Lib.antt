@@ -1,0 +1,3 @@
+pub mod Confirmation
+pub mod Failure
+pub mod Answers
