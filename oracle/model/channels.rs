@@ -1,4 +1,4 @@
-//! crates/channels/specs: Open, Failure
+//! crates/channels/specs: Open; crates/layouts/specs: Types; crates/replies/specs: Confirmation, Failure
 
 use crate::answer::{Out, guard};
 use crate::put;

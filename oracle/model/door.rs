@@ -1,4 +1,4 @@
-//! crates/door/specs/Kinds: names asked by the number of their kind. The structs that cross (Numbers) are src/ours.
+//! crates/kinds/specs/Kinds: names asked by the number of their kind. The structs that cross are src/ours.
 
 use crate::answer::{Out, guard, refuse};
 use crate::names::{Kind, count, numberOf, spelled};

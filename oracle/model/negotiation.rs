@@ -1,4 +1,4 @@
-//! crates/negotiation/specs: Read, Written
+//! crates/negotiation/specs: KexInit, Written, Read
 
 use crate::answer::{Out, guard, refuse};
 use crate::choice::{bothFirst, chosen, listed};

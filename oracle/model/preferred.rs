@@ -1,4 +1,4 @@
-//! crates/preferred/specs: Tables, Own
+//! crates/judging/specs: Tables; crates/filters/specs: Picked; crates/preferred/specs: Own
 
 use crate::names::{Kind, count, spelled};
 use crate::wire::Name;
@@ -16,21 +16,21 @@ fn goodList(k: Kind, ns: &[u8]) -> bool {
     ns.len() <= MOST_ENTRIES && below(count(k), ns)
 }
 
-fn goodRows(ks: &[u8], ids: &[u32]) -> bool {
+fn goodRowTable(ks: &[u8], ids: &[u32]) -> bool {
     ks.len() == ids.len() && ks.len() <= MOST_ROWS && below(KINDS, ks)
 }
 
-fn eachRow(f: impl Fn(u8, u32) -> bool, ks: &[u8], ids: &[u32]) -> bool {
+fn eachKeyRow(f: impl Fn(u8, u32) -> bool, ks: &[u8], ids: &[u32]) -> bool {
     ks.iter().zip(ids).all(|(&k, &i)| f(k, i))
 }
 
 /// no row of the second table has the identity of this row but another kind
 fn agrees(k: u8, id: u32, ks: &[u8], ids: &[u32]) -> bool {
-    eachRow(|l, i| i != id || l == k, ks, ids)
+    eachKeyRow(|l, i| i != id || l == k, ks, ids)
 }
 
 fn consistent(ks: &[u8], ids: &[u32], ks2: &[u8], ids2: &[u32]) -> bool {
-    eachRow(|k, i| agrees(k, i, ks2, ids2), ks, ids)
+    eachKeyRow(|k, i| agrees(k, i, ks2, ids2), ks, ids)
 }
 
 /// what is not refused with 9
@@ -41,8 +41,8 @@ pub fn valid(t: &Tables) -> bool {
         && goodList(Kind::Cipher, &t.cipher)
         && goodList(Kind::Mac, &t.mac)
         && goodList(Kind::Compression, &t.compression)
-        && goodRows(&t.key_kinds, &t.key_ids)
-        && goodRows(&t.cert_kinds, &t.cert_ids)
+        && goodRowTable(&t.key_kinds, &t.key_ids)
+        && goodRowTable(&t.cert_kinds, &t.cert_ids)
         && consistent(&t.key_kinds, &t.key_ids, &t.key_kinds, &t.key_ids)
         && consistent(&t.key_kinds, &t.key_ids, &t.cert_kinds, &t.cert_ids)
         && consistent(&t.cert_kinds, &t.cert_ids, &t.cert_kinds, &t.cert_ids)

@@ -1,4 +1,4 @@
-//! crates/wire/specs: Fields, Names, Shown
+//! crates/commas/specs: Cut; crates/wire/specs: Fields, Walk, Shown; crates/namelist/specs: Judged
 
 use crate::answer::{Out, guard};
 use crate::text::{ascii, utf8};

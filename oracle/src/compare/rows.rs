@@ -11,9 +11,10 @@ use plain::{Counters, Side, Tables};
 
 const ZERO: Counters = Counters { seqn: 0, bytes: 0 };
 
-/// the packet of an empty payload; of one byte, at the end of the byte count; a failure whose text is FF
+/// the packet of an empty payload; of one byte, at the end of the byte count; a failure with reason 255; one whose text is FF
 const EMPTY: &str = r#"ok "\00\00\00\0c\0b\00\00\00\00\00\00\00\00\00\00\00" 1 0"#;
 const LAST: &str = r#"ok "\00\00\00\0c\0a\00\00\00\00\00\00\00\00\00\00\00" 1 18446744073709551615"#;
+const REASON_255: &str = r#"ok "\5c\00\00\00\00\00\00\00\ff\00\00\00\00\00\00\00\02en""#;
 const FAILED: &str = r#"ok "\5c\00\00\00\00\00\00\00\00\00\00\00\01\ff\00\00\00\02en""#;
 
 pub struct Row {
@@ -87,15 +88,15 @@ fn corrected() -> Vec<Row> {
     let names = |n: usize| [&b"a,".repeat(n - 1)[..], b"a"].concat();
     let guess = |f: &mut Fields| (f.lists[0], f.follows) = (b"ext-info-c,curve25519-sha256".to_vec(), 1);
     vec![
-        kexinit("C1", least(Side::Server), guess, "ok 1 6 1 0 0 0 0 0 1 0"),
+        kexinit("C1, R24", least(Side::Server), guess, "ok 1 6 1 0 0 0 0 0 1 0"),
         first_list("C2", b",", "no 3"),
         first_list("C3", b"a,", "no 10"),
         first_list("C3", b"a,,", "no 3"),
         first_list("C4", "é".as_bytes(), "no 3"),
-        first_list("C5", &[b'a'; 16384], "no 10"),
-        first_list("C5", &[b'a'; 16385], "no 2"),
-        first_list("C6", &names(1025), "no 10"),
-        first_list("C6", &names(1026), "no 2"),
+        first_list("C5, R25", &[b'a'; 16384], "no 10"),
+        first_list("C5, R25", &[b'a'; 16385], "no 2"),
+        first_list("C6, R25", &names(1025), "no 10"),
+        first_list("C6, R25", &names(1026), "no 2"),
         first_list("C7", &[0xFF; 16385], "no 2"),
         first_list("C7", &[&names(1025)[..], b",,"].concat(), "no 3"),
     ]
@@ -111,6 +112,10 @@ fn departures() -> Vec<Row> {
     let both = |f: &mut Fields| {
         (f.lists[2], f.lists[4]) = (b"aes128-ctr".to_vec(), b"none,hmac-sha2-256".to_vec());
     };
+    let (mut extended, mut clear) = (least(Side::Server), least(Side::Client));
+    (extended.kex, clear.cipher) = (vec![10, 1], vec![0]);
+    let tcp = [0, 0, 0, 0, 0, 0, 0, 0, 0, 0, 0, 1, b'a', 0, 0, 0, 0];
+    let path = [0, 0, 0, 1, 0xFF, 0, 0, 0, 0, 0, 0, 0, 0];
     let mut nothing = least(Side::Client);
     (nothing.kex, nothing.key, nothing.cipher, nothing.compression) = (vec![], vec![], vec![], vec![]);
     vec![
@@ -121,7 +126,7 @@ fn departures() -> Vec<Row> {
         packet("R4", &[0, 4, 0, 0x21], "need 262181"),
         packet("R16", &[0, 4, 0, 0x1D], "need 262177"),
         first_list("R5", &[b'a'; 65], "no 10"),
-        case("R6", Case::Fail { recipient: 0, reason: 0, text: vec![0xFF] }, FAILED),
+        case("R6, R21", Case::Fail { recipient: 0, reason: 0, text: vec![0xFF] }, FAILED),
         opening("R7", b"", 0, &[], "no 6"),
         kexinit("R8, R12", least(Side::Client), |_| {}, "ok 1 6 1 0 0 0 0 0 0 0"),
         case("R10", Case::ReadKex { tables: least(Side::Client), rekey: false, payload: any }, "ok 1 6 1 0 0 0 0 0 0 0"),
@@ -130,6 +135,16 @@ fn departures() -> Vec<Row> {
         opening("R13", "é".as_bytes(), 1, &[], r#"ok 0 0 1 unknown "\c3\a9" """#),
         opening("R17", b"", 1, &[], r#"ok 0 0 1 unknown "" """#),
         opening("R18", b"x11", 1, &[0, 0, 0, 0, 0, 1, 0, 0], r#"ok 0 0 1 x11 "" 65536"#),
+        first_list("R19", b" ,\x00,\x7F,a@b@c", "no 10"),
+        first_list("R19", b"curve25519-sha256\x00", "no 10"),
+        kexinit("R19", least(Side::Client), |f| f.lists[0] = b"\x00,curve25519-sha256".to_vec(), "ok 1 6 1 0 0 0 0 0 0 0"),
+        opening("R20", b"direct-streamlocal@openssh.com", 1, &path, "no 3"),
+        opening("R20", &[0xFF], 1, &[], "no 3"),
+        case("R21", Case::Fail { recipient: 0, reason: 255, text: vec![] }, REASON_255),
+        opening("R22", b"direct-tcpip", 1, &tcp, r#"ok 0 0 1 direct-tcpip "" 0 "a" 0"#),
+        kexinit("R23", least(Side::Client), |f| f.lists[8] = ",é,,".into(), "ok 1 6 1 0 0 0 0 0 0 0"),
+        kexinit("R24", extended, |f| f.follows = 1, "ok 1 6 1 0 0 0 0 0 0 0"),
+        kexinit("R26", clear, |f| f.lists[2] = b"clear".to_vec(), "ok 1 6 0 0 0 0 0 0 0 0"),
     ]
 }
 
@@ -159,10 +174,16 @@ fn added() -> Vec<Row> {
         beyond("X7", read(kinds, 0), "no 9"),
         unknown("X8", 0, "none"),
         unknown("X8", 0, "ecdh-sha2-nistp256"),
-        unknown("X8", 0, "diffie-hellman-group14-sha1"),
-        unknown("X8", 3, "3des-cbc"),
-        unknown("X8", 4, "hmac-sha1"),
+        unknown("X8, R27", 0, "diffie-hellman-group1-sha1"),
+        unknown("X8, R27", 0, "diffie-hellman-group14-sha1"),
+        unknown("X8, R27", 1, "ssh-dss"),
+        unknown("X8", 1, "sk-ecdsa-sha2-nistp256@openssh.com"),
+        unknown("X8", 1, "sk-ssh-ed25519@openssh.com"),
+        unknown("X8, R27", 3, "3des-cbc"),
+        unknown("X8, R27", 4, "hmac-sha1"),
+        unknown("X8", 4, "hmac-sha1-etm@openssh.com"),
         unknown("X8", 5, "zlib"),
+        unknown("X8", 5, "zlib@openssh.com"),
     ]
 }
 

@@ -4,8 +4,9 @@ use plain::Counters;
 
 use super::{Slice, block_on, buffer};
 use crate::cipher::SealingKey;
+use crate::keys::key::ALL_KEY_TYPES;
 use crate::sshbuffer::PacketWriter;
-use crate::{Error, cipher, kex};
+use crate::{Error, cipher, kex, mac};
 
 /// What the Rust does where docs/DIFFERENCES.md says that we do otherwise: each row shown by running the text.
 pub fn differences() -> Vec<(&'static str, bool)> {
@@ -48,6 +49,18 @@ pub fn differences() -> Vec<(&'static str, bool)> {
     rows.push((
         "X8: the Rust knows kex names that are unknown here",
         known.iter().all(|n| kex::Name::try_from(*n).is_ok()),
+    ));
+
+    let known = ["hmac-sha1", "hmac-sha1-etm@openssh.com"];
+    rows.push((
+        "X8: the Rust knows MAC names that are unknown here",
+        known.iter().all(|n| mac::Name::try_from(*n).is_ok()),
+    ));
+
+    let known = ["ssh-dss", "sk-ecdsa-sha2-nistp256@openssh.com", "sk-ssh-ed25519@openssh.com"];
+    rows.push((
+        "X8: the Rust has key types that are unknown here (the stand-in spells them)",
+        known.iter().all(|n| ALL_KEY_TYPES.iter().any(|a| a.as_ref() == *n)),
     ));
     rows
 }

@@ -137,7 +137,6 @@ fn disagreement(run: &Output) -> String {
 /// What the program writes is held to its file stdout, compiled as the library is, at -O3. The other ways in which `rt try`
 /// compiles it may take longer than it waits, and say nothing here.
 fn replayed(work: &Path) -> Seen {
-    apart(work);
     let run = Command::new("rt").args(["try", "replay"]).current_dir(work).output().expect("rt runs");
     let text = [&run.stdout[..], &run.stderr[..]].concat();
     let text = String::from_utf8_lossy(&text);
@@ -149,14 +148,5 @@ fn replayed(work: &Path) -> Seen {
     Seen {
         caught: !compiled.starts_with("ended and wrote what is expected"),
         how: format!(" | {}", found.replace("\\\"", "\"").replace("\\\\", "\\").chars().take(90).collect::<String>()),
-    }
-}
-
-fn apart(work: &Path) {
-    let src = work.join("crates/wire/src");
-    if src.join("lists.rt").exists() {
-        fs::rename(src.join("lists.rt"), src.join("named.rt")).expect("a module renamed");
-        let text = fs::read_to_string(src.join("lib.rt")).expect("wire's modules");
-        fs::write(src.join("lib.rt"), text.replace("mod lists;", "mod named;")).expect("wire's modules");
     }
 }
