@@ -121,7 +121,8 @@ typedef struct {
     size_t len;      /* out[0 .. len] is what was written */
 } harupesat_written;
 
-/* The KEXINIT payload with a 16-byte cookie of random bytes. 4,096 bytes of out are always enough. Refuses with 9, 8. */
+/* The KEXINIT payload with a 16-byte cookie of random bytes. It has at most 3,702 bytes (proved: `kex-fits`), so an out of
+ * 4,096 is always enough. Refuses with 9, 8. */
 harupesat_written harupesat_write_kex(bool server,
                                       const uint8_t *kex, size_t kex_len,
                                       const uint8_t *key, size_t key_len,

@@ -1,4 +1,4 @@
-//! The library's functions over slices, and all the unsafe code there is. Each hands back the library's answer, or the
+//! The library's functions over slices, and every unsafe call (`ffi` declares them). Each hands back the library's answer, or the
 //! refusal that it carries.
 //!
 //! Why every call here is sound: each pointer and count are those of one slice; an output is borrowed mutably, so it
