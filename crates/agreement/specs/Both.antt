@@ -72,7 +72,7 @@ shared client server =
 
 -- each lists its own strict name; or the strict-rekey flag, which both have
 abbrev pub bothStrict : Tables → Tables → Bool → Bool
-bothStrict client server rekey = (listed clientStrict (kexList client) && listed serverStrict (kexList server)) || rekey
+bothStrict client server strictAgreed = (listed clientStrict (kexList client) && listed serverStrict (kexList server)) || strictAgreed
 
 unfoldable pub both : Tables → Tables → Bool → Out Names
-both client server rekey = settling (shared client server) (bothStrict client server rekey)
+both client server strictAgreed = settling (shared client server) (bothStrict client server strictAgreed)

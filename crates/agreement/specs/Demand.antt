@@ -26,19 +26,19 @@ pub record Ends (client server : Tables) (clientCookie serverCookie : List ℕ) 
   pub oneProtects : (protecting client || protecting server) ≡ true
 
 -- "[they] read each other's KEXINIT: both accept [..]; or both refuse [..], exactly if a needed category has no shared name"
-pub record Agreed (client server : Tables) (clientCookie serverCookie : List ℕ) (rekey : Bool) : Type 0 where
+pub record Agreed (client server : Tables) (clientCookie serverCookie : List ℕ) (strictAgreed : Bool) : Type 0 where
   pub clientSends : List ℕ
   pub serverSends : List ℕ
   pub clientWrites : writeKex client clientCookie ≡ done clientSends
   pub serverWrites : writeKex server serverCookie ≡ done serverSends
-  pub ended : Ended client server rekey (readKex client rekey serverSends) (readKex server rekey clientSends)
-  pub clientExactly : Refuses (readKex client rekey serverSends) ↔ ((n : ℕ) × Lacks client server n)
-  pub serverExactly : Refuses (readKex server rekey clientSends) ↔ ((n : ℕ) × Lacks client server n)
+  pub ended : Ended client server strictAgreed (readKex client strictAgreed serverSends) (readKex server strictAgreed clientSends)
+  pub clientExactly : Refuses (readKex client strictAgreed serverSends) ↔ ((n : ℕ) × Lacks client server n)
+  pub serverExactly : Refuses (readKex server strictAgreed clientSends) ↔ ((n : ℕ) × Lacks client server n)
 
 -- with "the same strict-rekey flag"; "And whatever bytes a peer sends, a side with such lists never accepts a cipher
 -- without built-in integrity beside MAC `none`."
 pub record Demand3 : Type 0 where
   pub agreed : (client server : Tables) (clientCookie serverCookie : List ℕ) → Ends client server clientCookie serverCookie
-      → (rekey : Bool) → Agreed client server clientCookie serverCookie rekey
-  pub neverUnprotected : (t : Tables) → protecting t ≡ true → (rekey : Bool) (bytes : List ℕ) (n : Names) → readKex t rekey bytes ≡ done n
+      → (strictAgreed : Bool) → Agreed client server clientCookie serverCookie strictAgreed
+  pub neverUnprotected : (t : Tables) → protecting t ≡ true → (strictAgreed : Bool) (bytes : List ℕ) (n : Names) → readKex t strictAgreed bytes ≡ done n
       → Protected n

@@ -33,7 +33,7 @@ pub record MadeOf (c : Choices) (isStrict : Bool) (n : Names) : Type 0 where
   pub strictKex : n .flags .«strict_kex» ≡ isStrict
 
 -- what is accepted: the names that the rule gives, and the record of them
-pub record Accepted (client server : Tables) (rekey : Bool) (n : Names) : Type 0 where
+pub record Accepted (client server : Tables) (strictAgreed : Bool) (n : Names) : Type 0 where
   pub names : Choices
   pub kexFirst : First (kexOffer client) (kexOffer server) (names .kex)
   pub keyFirst : First (keyList client) (keyList server) (names .key)
@@ -42,7 +42,7 @@ pub record Accepted (client server : Tables) (rekey : Bool) (n : Names) : Type 0
   pub serverMacOf : MacOf (macList client) (macList server) (names .cipher) (names .serverMac)
   pub clientCompressionFirst : First (compressionList client) (compressionList server) (names .clientCompression)
   pub serverCompressionFirst : First (compressionList client) (compressionList server) (names .serverCompression)
-  pub made : MadeOf names (bothStrict client server rekey) n
+  pub made : MadeOf names (bothStrict client server strictAgreed) n
 
 -- "a needed category has no shared name", and its number; a MAC is needed if the chosen cipher needs one
 pub data Lacks (client server : Tables) : ℕ → Type 0 where
@@ -59,11 +59,11 @@ pub record FirstLacking (client server : Tables) (n : ℕ) : Type 0 where
   pub earlier : (m : ℕ) → m < n → Lacks client server m → ⊥
 
 -- "both accept with equal names and flags [..]; or both refuse with the same number"
-pub data Ended (client server : Tables) (rekey : Bool) (clientReads serverReads : Out Names) : Type 0 where
-  bothAccept : (n : Names) → clientReads ≡ done n → serverReads ≡ done n → Accepted client server rekey n
-      → Ended client server rekey clientReads serverReads
+pub data Ended (client server : Tables) (strictAgreed : Bool) (clientReads serverReads : Out Names) : Type 0 where
+  bothAccept : (n : Names) → clientReads ≡ done n → serverReads ≡ done n → Accepted client server strictAgreed n
+      → Ended client server strictAgreed clientReads serverReads
   bothRefuse : (r : Refusal) → clientReads ≡ refused r → serverReads ≡ refused r → FirstLacking client server (r .number)
-      → Ended client server rekey clientReads serverReads
+      → Ended client server strictAgreed clientReads serverReads
 
 abbrev pub Refuses : Out Names → Type 0
 Refuses o = (r : Refusal) × (o ≡ refused r)

@@ -41,14 +41,14 @@ fn reads(
     key_ids: &[u32],
     cert_kinds: &[u8],
     cert_ids: &[u32],
-    rekey: bool,
+    strict_agreed: bool,
     p: &[u8],
 ) {
     words(b"read_kex");
     tables::side(server);
     tables::lists(kex, key, certificate, cipher, mac, compression);
     tables::rows(key_kinds, key_ids, cert_kinds, cert_ids);
-    flag(b" rekey ", rekey);
+    flag(b" strict_agreed ", strict_agreed);
     value(b" payload ", p.len() as u64);
     settled(harupesat_read_kex(
         server,
@@ -62,7 +62,7 @@ fn reads(
         key_ids,
         cert_kinds,
         cert_ids,
-        rekey,
+        strict_agreed,
         p,
     ));
 }
@@ -74,7 +74,7 @@ fn server_reads(
     cipher: &[u8],
     mac: &[u8],
     compression: &[u8],
-    rekey: bool,
+    strict_agreed: bool,
     p: &[u8],
 ) {
     let ids = [7u32];
@@ -92,7 +92,7 @@ fn server_reads(
         &ids,
         none,
         &no[..0],
-        rekey,
+        strict_agreed,
         p,
     );
 }
@@ -103,7 +103,7 @@ fn client_reads(
     certificate: &[u8],
     cipher: &[u8],
     mac: &[u8],
-    rekey: bool,
+    strict_agreed: bool,
     p: &[u8],
 ) {
     let ids = [0u32];
@@ -121,7 +121,7 @@ fn client_reads(
         no_ids,
         none,
         no_ids,
-        rekey,
+        strict_agreed,
         p,
     );
 }
@@ -137,8 +137,8 @@ fn sides(p: &[u8]) {
 }
 
 // A server that settles on aes256-cbc and the two MACs.
-fn with_names(kex: &[u8], key: &[u8], rekey: bool, p: &[u8]) {
-    server_reads(kex, key, b"\x09", b"\x02\x03", b"\x00", rekey, p);
+fn with_names(kex: &[u8], key: &[u8], strict_agreed: bool, p: &[u8]) {
+    server_reads(kex, key, b"\x09", b"\x02\x03", b"\x00", strict_agreed, p);
 }
 
 // The guess and strict key exchange.
@@ -239,8 +239,16 @@ fn server_certified(identity: u32, p: &[u8]) {
     );
 }
 
-fn client_certified(kex: &[u8], certificate: &[u8], rekey: bool, p: &[u8]) {
-    client_reads(kex, b"\x00", certificate, b"\x0A", b"\x04", rekey, p);
+fn client_certified(kex: &[u8], certificate: &[u8], strict_agreed: bool, p: &[u8]) {
+    client_reads(
+        kex,
+        b"\x00",
+        certificate,
+        b"\x0A",
+        b"\x04",
+        strict_agreed,
+        p,
+    );
 }
 
 fn server_offered(p: &[u8]) {

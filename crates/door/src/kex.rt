@@ -91,7 +91,7 @@ pub extern "C" fn harupesat_read_kex(
     key_ids: &[u32],
     cert_kinds: &[u8],
     cert_ids: &[u32],
-    rekey: bool,
+    strict_agreed: bool,
     payload: &[u8],
 ) -> Settled
     ensures { λ r.
@@ -109,7 +109,7 @@ pub extern "C" fn harupesat_read_kex(
           certKinds = now («cert_kinds» .entry);
           certIds = now («cert_ids» .entry);
         })
-        rekey (now (payload .entry))) ⌝ }
+        «strict_agreed» (now (payload .entry))) ⌝ }
 {
     settled_of(negotiation::read_kex(
         side_of(server),
@@ -123,7 +123,7 @@ pub extern "C" fn harupesat_read_kex(
         key_ids,
         cert_kinds,
         cert_ids,
-        rekey,
+        strict_agreed,
         payload,
     ))
 }

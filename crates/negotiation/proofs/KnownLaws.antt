@@ -132,11 +132,11 @@ module _ (t : Tables) where
     clientCompression : member (k .«client_compression») (rows Compression (t .compression)) ≡ true
     serverCompression : member (k .«server_compression») (rows Compression (t .compression)) ≡ true
 
-  walk : (asked : Bool) (strictRow : ℕ) (rekey : Bool) (c : At)
+  walk : (asked : Bool) (strictRow : ℕ) (strictAgreed : Bool) (c : At)
       → Post (λ x. Own (x .0))
-      (readRows spellsName (t .side) (kexChosen t) (keyListRows t) (rows Cipher (t .cipher)) (rows Mac (t .mac)) (rows Compression (t .compression)) asked strictRow rekey c)
+      (readRows spellsName (t .side) (kexChosen t) (keyListRows t) (rows Cipher (t .cipher)) (rows Mac (t .mac)) (rows Compression (t .compression)) asked strictRow strictAgreed c)
   unfolding readRows keys otherCipher macs compressions languages lastFields
-  walk asked strictRow rekey c =
+  walk asked strictRow strictAgreed c =
       go-on _ _ (λ kex e₁.
       go-on _ _ (λ key e₂.
       go-on _ _ (λ cipher e₃.
@@ -223,9 +223,9 @@ record Passed (t : Tables) (p : List ℕ) : Type 0 where
   most : length p ≤ mostKexInit
   least : 17 ≤ length p
 
-all-passed : (t : Tables) (rekey : Bool) (p : List ℕ) (n : Names) → readKex t rekey p ≡ done n → Passed t p
+all-passed : (t : Tables) (strictAgreed : Bool) (p : List ℕ) (n : Names) → readKex t strictAgreed p ≡ done n → Passed t p
 unfolding readKex
-all-passed t rekey p n e =
+all-passed t strictAgreed p n e =
     let a = bind-done (guard 9 (valid t)) _ n e in
     let b = bind-done (guard 1 (leb (length p) mostKexInit)) _ n (a .2) in
     let c = bind-done (guard 6 (leb 17 (length p))) _ n (b .2) in
@@ -235,10 +235,10 @@ all-passed t rekey p n e =
       least = leb-true 17 (length p) (passed 6 (leb 17 (length p)) (c .0) (c .1));
     }
 
-pub all-known : (t : Tables) (rekey : Bool) (p : List ℕ) (n : Names) → readKex t rekey p ≡ done n → Known t n
-all-known t rekey p n e =
-    let a = all-passed t rekey p n e in
+pub all-known : (t : Tables) (strictAgreed : Bool) (p : List ℕ) (n : Names) → readKex t strictAgreed p ≡ done n → Known t n
+all-known t strictAgreed p n e =
+    let a = all-passed t strictAgreed p n e in
     of-accepted n
     (in-known t (valid-parts t (a .tables)) (a .tables) _
-    (walk t (member (strictName (t .side)) (t .kex)) (strictName (other (t .side))) rekey (here p 17)))
-    (staged t (a .tables) rekey p (a .most) (a .least) ∙ e)
+    (walk t (member (strictName (t .side)) (t .kex)) (strictName (other (t .side))) strictAgreed (here p 17)))
+    (staged t (a .tables) strictAgreed p (a .most) (a .least) ∙ e)

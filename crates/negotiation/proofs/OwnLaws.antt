@@ -35,11 +35,11 @@ pub front-length : (n : ℕ) (xs : List ℕ) → n ≤ length xs → n ≡ lengt
 front-length n xs h = sym (length-take-le n xs h)
 
 -- the constant columns spell what the name table says
-pub table-rows : (side : Side) (kex key cipher mac compression : List ℕ) (asked : Bool) (r : ℕ) (rekey : Bool) (c : At)
-    → readRows tableSpells side kex key cipher mac compression asked r rekey c
-    ≡ readRows spellsName side kex key cipher mac compression asked r rekey c
-table-rows side kex key cipher mac compression asked r rekey c =
-    ap (λ (f : ℕ → List ℕ → Bool). readRows f side kex key cipher mac compression asked r rekey c) (λ i r name. table-spells r name i)
+pub table-rows : (side : Side) (kex key cipher mac compression : List ℕ) (asked : Bool) (r : ℕ) (strictAgreed : Bool) (c : At)
+    → readRows tableSpells side kex key cipher mac compression asked r strictAgreed c
+    ≡ readRows spellsName side kex key cipher mac compression asked r strictAgreed c
+table-rows side kex key cipher mac compression asked r strictAgreed c =
+    ap (λ (f : ℕ → List ℕ → Bool). readRows f side kex key cipher mac compression asked r strictAgreed c) (λ i r name. table-spells r name i)
 
 -- each list fits in its rows
 fits : (xs : List ℕ) → (rowList xs) .len ≤ length ((rowList xs) .rows)
@@ -63,8 +63,8 @@ lists-fit t =
       compression = fits (rows Compression (t .compression));
     }
 
-module _ (t : Tables) (own : Own) (told : own ≡ ownOf t) (rekey : Bool) (p : List ℕ) where
-  pub read-invalid : (q : Refusal) → (own .number ≡ 0 → ⊥) → No 9 q → refused q ≡ readKex t rekey p
+module _ (t : Tables) (own : Own) (told : own ≡ ownOf t) (strictAgreed : Bool) (p : List ℕ) where
+  pub read-invalid : (q : Refusal) → (own .number ≡ 0 → ⊥) → No 9 q → refused q ≡ readKex t strictAgreed p
   unfolding readKex ownOf listsOf _>>=_
   read-invalid q h e =
       split (valid t)
@@ -78,11 +78,11 @@ module _ (t : Tables) (own : Own) (told : own ≡ ownOf t) (rekey : Bool) (p : L
     is-lists : own ≡ listsOf t
     is-lists = told ∙ own-lists t is-valid
 
-    pub read-long : (q : Refusal) → mostKexInit < length p → No 1 q → refused q ≡ readKex t rekey p
+    pub read-long : (q : Refusal) → mostKexInit < length p → No 1 q → refused q ≡ readKex t strictAgreed p
     unfolding readKex _>>=_
     read-long q l e = rw (is-valid, lt-leb (length p) mostKexInit l, e)
 
-    pub read-short : (q : Refusal) → length p ≤ mostKexInit → length p < 17 → No 6 q → refused q ≡ readKex t rekey p
+    pub read-short : (q : Refusal) → length p ≤ mostKexInit → length p < 17 → No 6 q → refused q ≡ readKex t strictAgreed p
     unfolding readKex _>>=_
     read-short q l k e = rw (is-valid, le-leb (length p) mostKexInit l, lt-leb 17 (length p) k, e)
 
@@ -91,11 +91,11 @@ module _ (t : Tables) (own : Own) (told : own ≡ ownOf t) (rekey : Bool) (p : L
 
     pub read-staged : (m : Out Names) (a : Bool) (n : ℕ) → n ≡ strictName (t .side) → a ≡ member n (t .kex) → length p ≤ mostKexInit → 17 ≤ length p
         → m ≡ inNames (readRows spellsName (t .side) (front (own .«kex_chosen»)) (front (own .key)) (front (own .cipher)) (front (own .mac)) (front (own .compression)) a
-        (strictName (other (t .side))) rekey (here p 17))
-        → m ≡ readKex t rekey p
+        (strictName (other (t .side))) strictAgreed (here p 17))
+        → m ≡ readKex t strictAgreed p
     unfolding listsOf
     read-staged m a n g f l k e =
         e ∙ rw (f, g, is-lists, handed-rows (kexChosen t), handed-rows (keyListRows t), handed-rows (rows Cipher (t .cipher)), handed-rows (rows Mac (t .mac)), handed-rows (rows Compression (t .compression)))
-        (staged t is-valid rekey p l k)
+        (staged t is-valid strictAgreed p l k)
 
 pub ruleset entry-laws = (read-invalid, read-long, read-short, read-staged)

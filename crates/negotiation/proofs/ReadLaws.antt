@@ -72,7 +72,7 @@ record-named k i follows =
       compression-number (k .«server_compression») (i .serverCompression .0) (i .serverCompression .1),
     )
 
-module _ (t : Tables) (v : valid t ≡ true) (rekey : Bool) where
+module _ (t : Tables) (v : valid t ≡ true) (strictAgreed : Bool) where
   -- the rest of `readKex` from the language strings on, from the compressions, the MACs, the keys and the kex methods on
   abbrev ending : Choices → List (List ℕ) → List (List ℕ) → At → Out Names
   ending names kexes keys c =
@@ -80,7 +80,7 @@ module _ (t : Tables) (v : valid t ≡ true) (rekey : Bool) where
       done
       (settled names
       (not (eqb (f .0) 0) && not (bothFirst (spelledRows (kexChosen t)) kexes && bothFirst (keyList t) keys))
-      (strict t rekey kexes))
+      (strict t strictAgreed kexes))
 
   abbrev compressing : List ℕ → List ℕ → List ℕ → List ℕ → List ℕ → List (List ℕ) → List (List ℕ) → At → Out Names
   compressing kex key cipher clientMac serverMac kexes keys c =
@@ -115,12 +115,12 @@ module _ (t : Tables) (v : valid t ≡ true) (rekey : Bool) where
       offer c >>= λ x. settle 10 (chosen (t .side) (spelledRows (kexChosen t)) (x .0)) >>= λ kex. keying kex (x .0) (x .1)
 
   ended : (k : Rows) → Kinds k → (kexes keys : List (List ℕ))
-      → k .guessed ≡ (bothFirst (spelledRows (kexChosen t)) kexes && bothFirst (keyList t) keys) → k .strict ≡ strict t rekey kexes → (c : At)
+      → k .guessed ≡ (bothFirst (spelledRows (kexChosen t)) kexes && bothFirst (keyList t) keys) → k .strict ≡ strict t strictAgreed kexes → (c : At)
       → inNames (languages k c) ≡ ending (spelled k) kexes keys c
   unfolding languages lastFields
   ended k i kexes keys g s c = simp (in-bind, in-done, record-named k i, g, s)
 
-  module _ (kexes keyed : List (List ℕ)) (s : Bool) (st : s ≡ strict t rekey kexes) (g : Bool)
+  module _ (kexes keyed : List (List ℕ)) (s : Bool) (st : s ≡ strict t strictAgreed kexes) (g : Bool)
       (gu : g ≡ (bothFirst (spelledRows (kexChosen t)) kexes && bothFirst (keyList t) keyed)) (kex key cipher : ℕ)
       (ik : (0 ≤ kex) × (kex < 9)) (iy : (firstRow Key ≤ key) × (key < firstRow Cipher)) (ic : (firstRow Cipher ≤ cipher) × (cipher < firstRow Mac)) where
     -- the rows up to the MACs, and the compressions to come
@@ -158,7 +158,7 @@ module _ (t : Tables) (v : valid t ≡ true) (rekey : Bool) where
     passed c = in-bind (string c) _ ∙ on (string c) (λ o. maced (o .1))
 
   -- the key and cipher lists
-  module _ (kexes : List (List ℕ)) (s : Bool) (st : s ≡ strict t rekey kexes) (f : Bool) (fu : f ≡ bothFirst (spelledRows (kexChosen t)) kexes)
+  module _ (kexes : List (List ℕ)) (s : Bool) (st : s ≡ strict t strictAgreed kexes) (f : Bool) (fu : f ≡ bothFirst (spelledRows (kexChosen t)) kexes)
       (kex : ℕ) (ik : (0 ≤ kex) × (kex < 9)) where
     keyed : (c : At)
         → inNames (keys spellsName (t .side) (keyListRows t) (rows Cipher (t .cipher)) (rows Mac (t .mac)) (rows Compression (t .compression)) kex f s c)
@@ -181,27 +181,27 @@ module _ (t : Tables) (v : valid t ≡ true) (rekey : Bool) where
   strict-in Server = refl
 
   stricted : (c : At) (q : Run) (d : At) → nameList c ≡ done (q, d)
-      → (asked && standsIn spellsName offeredRow c || rekey) ≡ strict t rekey (cut (q .bytes))
+      → (asked && standsIn spellsName offeredRow c || strictAgreed) ≡ strict t strictAgreed (cut (q .bytes))
   unfolding strict standsIn
   stricted c q d e = rw (list-run c (q, d) e, offered-listed (cut (q .bytes)) offeredRow (strict-in (other (t .side))))
 
   -- all lists
   listed-all : (c : At)
-      → inNames (readRows spellsName (t .side) (kexChosen t) (keyListRows t) (rows Cipher (t .cipher)) (rows Mac (t .mac)) (rows Compression (t .compression)) asked offeredRow rekey c)
+      → inNames (readRows spellsName (t .side) (kexChosen t) (keyListRows t) (rows Cipher (t .cipher)) (rows Mac (t .mac)) (rows Compression (t .compression)) asked offeredRow strictAgreed c)
       ≡ listing c
   unfolding readRows
   listed-all c =
       needed (t .side) (kexChosen t) 0 9 (chosen-within t v) (lit≤ tt) 10 _ _ c
       (λ q d e r h l.
-      keyed (cut (q .bytes)) (asked && standsIn spellsName offeredRow c || rekey) (stricted c q d e)
+      keyed (cut (q .bytes)) (asked && standsIn spellsName offeredRow c || strictAgreed) (stricted c q d e)
       (bothFirst (spelledRows (kexChosen t)) (cut (q .bytes))) refl r (h, l) d)
 
-  guarded : (p : List ℕ) → length p ≤ mostKexInit → 17 ≤ length p → readKex t rekey p ≡ listing (here p 17)
+  guarded : (p : List ℕ) → length p ≤ mostKexInit → 17 ≤ length p → readKex t strictAgreed p ≡ listing (here p 17)
   unfolding readKex _>>=_
   guarded p a b = rw (v, le-leb (length p) mostKexInit a, le-leb 17 (length p) b)
 
   -- by rows, from the first list on, what `readKex` says
   pub staged : (p : List ℕ) → length p ≤ mostKexInit → 17 ≤ length p
-      → inNames (readRows spellsName (t .side) (kexChosen t) (keyListRows t) (rows Cipher (t .cipher)) (rows Mac (t .mac)) (rows Compression (t .compression)) asked offeredRow rekey (here p 17))
-      ≡ readKex t rekey p
+      → inNames (readRows spellsName (t .side) (kexChosen t) (keyListRows t) (rows Cipher (t .cipher)) (rows Mac (t .mac)) (rows Compression (t .compression)) asked offeredRow strictAgreed (here p 17))
+      ≡ readKex t strictAgreed p
   staged p a b = listed-all (here p 17) ∙ sym (guarded p a b)

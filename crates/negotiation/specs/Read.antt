@@ -60,7 +60,7 @@ settleMac cipher (some mac) = pick (needsMac cipher && same mac noMac) (refuse 1
 -- "Strict: own preferences hold the own-side strict name and the peer's kex list holds the other; or the caller's
 -- strict-rekey flag."
 unfoldable pub strict : Tables → Bool → List (List ℕ) → Bool
-strict t rekey peer = (member (strictName (t .side)) (t .kex) && listed (rowSpelled (strictName (other (t .side)))) peer) || rekey
+strict t strictAgreed peer = (member (strictName (t .side)) (t .kex) && listed (rowSpelled (strictName (other (t .side)))) peer) || strictAgreed
 
 -- "The key choice [..] says whether a certificate name was chosen; the key number is the plain one."
 abbrev pub isSome : Option ℕ → Bool
@@ -99,7 +99,7 @@ settled c ignore isStrict =
 
 -- "Fields and choices alternate" (docs/DIFFERENCES.md, C1, R8, R9, R10, R23, R24)
 unfoldable pub readKex : Tables → Bool → List ℕ → Out Names
-readKex t rekey p = do
+readKex t strictAgreed p = do
   _ ← guard 9 (valid t)
   _ ← guard 1 (leb (length p) mostKexInit)
   _ ← guard 6 (leb 17 (length p))
@@ -135,7 +135,7 @@ readKex t rekey p = do
         serverCompression = serverCompression;
       })
       (not (eqb follows 0) && not (bothFirst (spelledRows (kexChosen t)) kexes && bothFirst (keyList t) keys))
-      (strict t rekey kexes))
+      (strict t strictAgreed kexes))
 
 -- what a `GotNames` means
 abbrev pub gotNames : GotNames → Out Names

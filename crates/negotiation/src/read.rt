@@ -58,9 +58,9 @@ fn peer_strict_name(side: Side) -> u8
 }
 
 // The names' columns are lent here, once for all lists.
-fn read_lists(own: Own, side: Side, asked: bool, rekey: bool, p: &[u8]) -> GotNames
+fn read_lists(own: Own, side: Side, asked: bool, strict_agreed: bool, p: &[u8]) -> GotNames
     requires { ⌜ (own .«kex_chosen» .len ≤ length (own .«kex_chosen» .rows)) × (own .key .len ≤ length (own .key .rows)) × (own .cipher .len ≤ length (own .cipher .rows)) × (own .mac .len ≤ length (own .mac .rows)) × (own .compression .len ≤ length (own .compression .rows)) ⌝ }
-    ensures { λ r. ⌜ gotNames r ≡ inNames (readRows spellsName side (front (own .«kex_chosen»)) (front (own .key)) (front (own .cipher)) (front (own .mac)) (front (own .compression)) asked (strictName (other side)) rekey (here (now (p .entry)) 17)) ⌝ }
+    ensures { λ r. ⌜ gotNames r ≡ inNames (readRows spellsName side (front (own .«kex_chosen»)) (front (own .key)) (front (own .cipher)) (front (own .mac)) (front (own .compression)) asked (strictName (other side)) «strict_agreed» (here (now (p .entry)) 17)) ⌝ }
 {
     let kex = own.kex_chosen;
     let kexrows = kex.rows;
@@ -90,7 +90,7 @@ fn read_lists(own: Own, side: Side, asked: bool, rekey: bool, p: &[u8]) -> GotNa
         &comprows[..compend],
         asked,
         strictrow,
-        rekey,
+        strict_agreed,
         p,
         Cursor { at: FIRST_LIST },
     );
@@ -110,7 +110,7 @@ pub fn read_kex(
     key_ids: &[u32],
     cert_kinds: &[u8],
     cert_ids: &[u32],
-    rekey: bool,
+    strict_agreed: bool,
     p: &[u8],
 ) -> GotNames
     ensures { λ r. ⌜ gotNames r ≡ readKex (record {
@@ -125,7 +125,7 @@ pub fn read_kex(
       keyIds = now («key_ids» .entry);
       certKinds = now («cert_kinds» .entry);
       certIds = now («cert_ids» .entry);
-    }) rekey (now (p .entry)) ⌝ }
+    }) «strict_agreed» (now (p .entry)) ⌝ }
 {
     let own = own_lists(
         side,
@@ -150,5 +150,5 @@ pub fn read_kex(
         return GotNames::Refused(refuse(INCONSISTENT));
     }
     let asked = member(strict_name(side), kex);
-    read_lists(own, side, asked, rekey, p)
+    read_lists(own, side, asked, strict_agreed, p)
 }

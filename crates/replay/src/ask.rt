@@ -33,7 +33,7 @@ fn kex_with(
     places: [Place; 10],
     key_ids: &[u32],
     cert_ids: &[u32],
-    rekey: bool,
+    strict_agreed: bool,
     last: &[u8],
     space: &[u8],
 ) -> Told {
@@ -76,7 +76,7 @@ fn kex_with(
         key_ids,
         certs,
         cert_ids,
-        rekey,
+        strict_agreed,
         last,
     );
     answers::settled(line, at, got)
@@ -87,7 +87,7 @@ fn kex(
     at: usize,
     writes: bool,
     t: Tables,
-    rekey: bool,
+    strict_agreed: bool,
     last: Place,
     space: &[u8],
 ) -> Told {
@@ -105,7 +105,7 @@ fn kex(
         places,
         &key_ids[..k],
         &cert_ids[..c],
-        rekey,
+        strict_agreed,
         part(space, last),
         space,
     )
@@ -117,17 +117,20 @@ fn read_kex(line: &[u8], r: Reader, space: &[u8], at: usize) -> Said {
         return Said::Malformed;
     }
     let n = t.end.number(line);
-    let GotNumber::Number(rekey, r1) = n else {
+    let GotNumber::Number(strict_agreed, r1) = n else {
         return Said::Malformed;
     };
-    if 1 < rekey {
+    if 1 < strict_agreed {
         return Said::Malformed;
     }
     let b = r1.bytes(line);
     let GotBytes::Bytes(payload, end) = b else {
         return Said::Malformed;
     };
-    Said::Ours(kex(line, at, false, t, rekey == 1, payload, space), end)
+    Said::Ours(
+        kex(line, at, false, t, strict_agreed == 1, payload, space),
+        end,
+    )
 }
 
 fn write_kex(line: &[u8], r: Reader, space: &[u8], at: usize) -> Said {

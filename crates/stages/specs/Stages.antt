@@ -95,9 +95,9 @@ module _ (spells : ℕ → List ℕ → Bool) (side : Side) where
 
   -- The kex list, and so all of them. `asked`: the own preferences hold the own strict name; `strictRow`: the other side's.
   unfoldable pub readRows : List ℕ → List ℕ → List ℕ → List ℕ → List ℕ → Bool → ℕ → Bool → At → Out (Rows × Bool)
-  readRows kex key cipher mac compression asked strictRow rekey c = do
+  readRows kex key cipher mac compression asked strictRow strictAgreed c = do
     (a, f, c₁) ← picked spells side Needed 10 kex c
-    keys key cipher mac compression a f (asked && standsIn spells strictRow c || rekey) c₁
+    keys key cipher mac compression a f (asked && standsIn spells strictRow c || strictAgreed) c₁
 
 -- what a `GotRows` means
 abbrev pub gotRows : GotRows → Out (Rows × Bool)

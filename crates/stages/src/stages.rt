@@ -275,11 +275,11 @@ pub fn read_rows(
     compression: &[u8],
     asked: bool,
     strictrow: u8,
-    rekey: bool,
+    strict_agreed: bool,
     p: &[u8],
     c: Cursor,
 ) -> GotRows
-    ensures { λ r. ⌜ gotRows r ≡ readRows (spellsIn (now (spellings .entry)) (now (starts .entry)) (now (lengths .entry))) side (now (kex .entry)) (now (key .entry)) (now (cipher .entry)) (now (mac .entry)) (now (compression .entry)) asked strictrow rekey (here (now (p .entry)) (c .at)) ⌝ }
+    ensures { λ r. ⌜ gotRows r ≡ readRows (spellsIn (now (spellings .entry)) (now (starts .entry)) (now (lengths .entry))) side (now (kex .entry)) (now (key .entry)) (now (cipher .entry)) (now (mac .entry)) (now (compression .entry)) asked strictrow «strict_agreed» (here (now (p .entry)) (c .at)) ⌝ }
 {
     let a = pick_name(
         spellings,
@@ -296,7 +296,7 @@ pub fn read_rows(
         return GotRows::Refused(a.why());
     };
     let offered = stands_in(spellings, starts, lengths, strictrow, p, c);
-    let strict = asked & offered | rekey;
+    let strict = asked & offered | strict_agreed;
     keys(
         spellings,
         starts,
