@@ -1,6 +1,7 @@
 #!/bin/sh
 # Builds and runs the example: both ends on the default tables, and what they settle on.
 #   bindings/example.sh [c|rust]      the C one, where none is named
+# FOR, LIBDOOR: see tools.sh.
 set -eu
 . "$(dirname "$0")/tools.sh"
 
@@ -13,8 +14,9 @@ c)
     $RUN "$built/both_ends"
     ;;
 rust)
+    need cargo
     need_rust
-    cd "$root/bindings/rust" && x86_64_cargo run --quiet --example both_ends
+    cd "$root/bindings/rust" && cargo_for run --quiet --example both_ends
     ;;
 *) sed -n 's/^#  *bindings/usage: bindings/p' "$0" >&2 && exit 2 ;;
 esac

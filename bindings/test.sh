@@ -1,7 +1,8 @@
 #!/bin/sh
 # Tests the header, the C example and the Rust wrapper against the static library.
 #   bindings/test.sh [c|rust]      both, where none is named
-# On x86-64 with the machine's own tools, elsewhere with a cross compiler and an emulator: see tools.sh, also on LIBDOOR.
+# FOR=aarch64 (x86_64, riscv64, armv7) for another processor than the machine's own, by a cross compiler and an emulator: see
+# tools.sh, also on LIBDOOR.
 set -eu
 . "$(dirname "$0")/tools.sh"
 header=$root/include/harupesat.h
@@ -9,7 +10,7 @@ header=$root/include/harupesat.h
 # The header twice, so that its guard is tried too, and one function's address, so that its linkage is.
 sample='#include "harupesat.h"
 #include "harupesat.h"
-harupesat_shown (*shows)(const uint8_t *, size_t, size_t, size_t) = harupesat_show;'
+harupesat_shown (*shows)(const uint8_t *, harupesat_size, harupesat_size, harupesat_size) = harupesat_show;'
 
 compiles() { # NAME COMPILER FLAG..
     name=$1 && shift
@@ -35,15 +36,15 @@ same_names() { # WHO NAMES
 symbols() {
     exported=$("$NM" --defined-only --extern-only "$LIBDOOR" | awk 'NF == 3 { print $3 }' | sort -u)
     same_names 'the library exports' "$exported"
-    wanted=$("$NM" -u "$LIBDOOR" | awk '$1 == "U" { print $2 }' | sort -u | grep -vx 'memcpy\|memset' || true)
+    wanted=$("$NM" -u "$LIBDOOR" | awk '$1 == "U" { print $2 }' | sort -u | grep -vx 'memcpy\|memmove\|memset' || true)
     if [ -n "$wanted" ]; then
-        echo "header: the library wants more than memcpy and memset: $wanted" >&2
+        echo "header: the library wants more than memcpy, memmove and memset: $wanted" >&2
         exit 1
     fi
-    echo "header: the library wants no more than memcpy and memset"
+    echo "header: the library wants no more than memcpy, memmove and memset"
 }
 
-# $RUN is empty on x86-64, and $LINK too.
+# $RUN is empty for the machine's own processor, and $LINK too.
 known_answers() {
     rm -f "$built"/test-*.o
     for file in "$root"/bindings/c/test/*.c; do
@@ -65,10 +66,10 @@ c() {
 }
 
 rust() {
-    need "$CC" ${RUN:+"$RUN"}
+    need "$CC" cargo ${RUN:+"$RUN"}
     need_rust
     same_names 'the wrapper declares' "$(functions <"$root/bindings/rust/src/ffi.rs")"
-    (cd "$root/bindings/rust" && x86_64_cargo test)
+    (cd "$root/bindings/rust" && cargo_for test)
     example rust
 }
 

@@ -2,10 +2,13 @@
  *
  * The functions of crates/door, for C and whatever speaks C's calling convention. The static library is made by
  *
- *     rt staticlib door          -> target/staticlib/libdoor.a      (x86-64; wants no more than memcpy and memset)
+ *     rt staticlib door          -> target/staticlib/libdoor.a            (x86-64)
+ *     bindings/cross.sh aarch64  -> target/staticlib/aarch64/libdoor.a    (riscv64 and armv7 likewise)
  *
- * Slices are a pointer and a count of elements; an empty one may be null. Nothing is kept, allocated or copied: an answer
- * is a struct by value, and a text in it is a place in the bytes that the caller lent. Any bytes, numbers, tables and
+ * and wants no more than memcpy, memmove and memset.
+ *
+ * Slices are a pointer and a count of elements; an empty one may be null. Nothing is kept or allocated: an answer is a
+ * struct by value, and a text in it is a place in the bytes that the caller lent. Any bytes, numbers, tables and
  * lengths get an answer. A refusal has what == HARUPESAT_REFUSED, its number from the table below, and 0 in every other
  * field; it has changed no byte of `out`.
  *
@@ -23,6 +26,13 @@
 
 #ifdef __cplusplus
 extern "C" {
+#endif
+
+/* A count or a place. It has 64 bits on every processor, since the library's have. */
+#if SIZE_MAX == UINT64_MAX
+typedef size_t harupesat_size;
+#else
+typedef uint64_t harupesat_size;
 #endif
 
 /* What an answer is. */
@@ -81,61 +91,66 @@ enum {
 /* ---- Clear packets (RFC 4253 section 6) */
 
 typedef struct {
-    uint8_t what;    /* REFUSED, DONE or NEED */
+    uint8_t what;          /* REFUSED, DONE or NEED */
     uint8_t number;
-    size_t need;     /* NEED: so many bytes in all */
-    size_t start;    /* the payload: s[start .. start + len] */
-    size_t len;
-    size_t end;      /* where the padding starts */
-    size_t taken;    /* the packet's bytes, padding and all */
-    uint32_t seqn;   /* the direction's counters after the packet */
+    harupesat_size need;   /* NEED: so many bytes in all */
+    harupesat_size start;  /* the payload: s[start .. start + len] */
+    harupesat_size len;
+    harupesat_size end;    /* where the padding starts */
+    harupesat_size taken;  /* the packet's bytes, padding and all */
+    uint32_t seqn;         /* the direction's counters after the packet */
     uint64_t bytes;
 } harupesat_frame;
 
 /* The packet at the front of s. seqn and bytes are the direction's counters: 0 and 0 when the connection starts. A
  * refusal and NEED count nothing: go on with the old ones. Refuses with 4, 7. */
-harupesat_frame harupesat_frame_read(const uint8_t *s, size_t s_len, uint32_t seqn, uint64_t bytes);
+harupesat_frame harupesat_frame_read(const uint8_t *s, harupesat_size s_len, uint32_t seqn, uint64_t bytes);
 
 typedef struct {
     uint8_t what;
     uint8_t number;
-    size_t len;      /* out[0 .. len] is the packet */
+    harupesat_size len;  /* out[0 .. len] is the packet */
     uint32_t seqn;
     uint64_t bytes;
 } harupesat_sealed;
 
 /* The packet of a payload of up to 262,167 bytes. It takes 5 + payload_len bytes and 4 to 11 of padding: an out of
  * payload_len + 16 bytes is always enough. Refuses with 4, 8. */
-harupesat_sealed harupesat_frame_write(const uint8_t *payload, size_t payload_len, uint32_t seqn, uint64_t bytes,
-                                       uint8_t *out, size_t out_len);
+harupesat_sealed harupesat_frame_write(const uint8_t *payload, harupesat_size payload_len, uint32_t seqn, uint64_t bytes,
+                                       uint8_t *out, harupesat_size out_len);
 
 /* ---- KEXINIT (RFC 4253 section 7.1)
  *
  * A side's tables: six preference lists of numbers, up to 16 each, best first; of a server up to 8 key rows and up to 8
  * certificate rows, two columns each (kinds, identities), of one length. Equal identity stands for equal public key data.
- * A client lends no rows. A server's certificate list is not used, and is judged for 9 all the same. */
+ * A client lends no rows. A server's certificate list is not used, and is judged for 9 all the same.
+ *
+ * Strict key exchange: a kex list holds extension names too, and each side writes its own and drops the other's. A side
+ * whose list lacks its strict name (11, kex-strict-c-v00@openssh.com, of a client; 12, kex-strict-s-v00@openssh.com, of a
+ * server) settles without strict key exchange, whatever the peer lists. Somebody between the two ends can then take away
+ * the first packets under the new keys unnoticed (Terrapin, CVE-2023-48795). The default kex list holds both names. */
 
 typedef struct {
     uint8_t what;
     uint8_t number;
-    size_t len;      /* out[0 .. len] is what was written */
+    harupesat_size len;  /* out[0 .. len] is what was written */
 } harupesat_written;
 
 /* The KEXINIT payload with a 16-byte cookie of random bytes. It has at most 3,702 bytes (proved: `kex-fits`), so an out of
  * 4,096 is always enough. Refuses with 9, 8. */
 harupesat_written harupesat_write_kex(bool server,
-                                      const uint8_t *kex, size_t kex_len,
-                                      const uint8_t *key, size_t key_len,
-                                      const uint8_t *certificate, size_t certificate_len,
-                                      const uint8_t *cipher, size_t cipher_len,
-                                      const uint8_t *mac, size_t mac_len,
-                                      const uint8_t *compression, size_t compression_len,
-                                      const uint8_t *key_kinds, size_t key_kinds_len,
-                                      const uint32_t *key_ids, size_t key_ids_len,
-                                      const uint8_t *cert_kinds, size_t cert_kinds_len,
-                                      const uint32_t *cert_ids, size_t cert_ids_len,
-                                      const uint8_t *cookie, size_t cookie_len,
-                                      uint8_t *out, size_t out_len);
+                                      const uint8_t *kex, harupesat_size kex_len,
+                                      const uint8_t *key, harupesat_size key_len,
+                                      const uint8_t *certificate, harupesat_size certificate_len,
+                                      const uint8_t *cipher, harupesat_size cipher_len,
+                                      const uint8_t *mac, harupesat_size mac_len,
+                                      const uint8_t *compression, harupesat_size compression_len,
+                                      const uint8_t *key_kinds, harupesat_size key_kinds_len,
+                                      const uint32_t *key_ids, harupesat_size key_ids_len,
+                                      const uint8_t *cert_kinds, harupesat_size cert_kinds_len,
+                                      const uint32_t *cert_ids, harupesat_size cert_ids_len,
+                                      const uint8_t *cookie, harupesat_size cookie_len,
+                                      uint8_t *out, harupesat_size out_len);
 
 typedef struct {
     uint8_t what;
@@ -149,24 +164,31 @@ typedef struct {
     uint8_t server_compression;
     bool host_key_is_certificate;
     bool ignore_guessed;         /* the peer's guessed packet is to be dropped */
-    bool strict_kex;
+    bool strict_kex;             /* the caller then keeps to its rules: docs/LINKING.md */
 } harupesat_names;
 
-/* What a side with these tables settles on when it reads the peer's KEXINIT payload. rekey: strict key exchange was
- * agreed in the connection's first exchange. Refuses with 9, 1, 6, then in field order 2, 3, 10 to 14, 5. */
+/* What a side with these tables settles on when it reads the peer's KEXINIT payload. Refuses with 9, 1, 6, then in field
+ * order 2, 3, 10 to 14, 5.
+ *
+ * strict_agreed: strict key exchange was agreed in the connection's first exchange. In that exchange it is false, in
+ * later ones that exchange's strict_kex; where it is true strict_kex is true, whatever the lists say. A wrong true, and
+ * this end starts its sequence numbers anew after NEWKEYS while the peer counts on. A wrong false in a later exchange,
+ * where the peer need not list its strict name again, and the peer starts anew while this end counts on. Either way the
+ * two ends no longer take each other's packets (but under a gcm cipher, which does not look at the number): the
+ * connection is lost. */
 harupesat_names harupesat_read_kex(bool server,
-                                   const uint8_t *kex, size_t kex_len,
-                                   const uint8_t *key, size_t key_len,
-                                   const uint8_t *certificate, size_t certificate_len,
-                                   const uint8_t *cipher, size_t cipher_len,
-                                   const uint8_t *mac, size_t mac_len,
-                                   const uint8_t *compression, size_t compression_len,
-                                   const uint8_t *key_kinds, size_t key_kinds_len,
-                                   const uint32_t *key_ids, size_t key_ids_len,
-                                   const uint8_t *cert_kinds, size_t cert_kinds_len,
-                                   const uint32_t *cert_ids, size_t cert_ids_len,
-                                   bool rekey,
-                                   const uint8_t *payload, size_t payload_len);
+                                   const uint8_t *kex, harupesat_size kex_len,
+                                   const uint8_t *key, harupesat_size key_len,
+                                   const uint8_t *certificate, harupesat_size certificate_len,
+                                   const uint8_t *cipher, harupesat_size cipher_len,
+                                   const uint8_t *mac, harupesat_size mac_len,
+                                   const uint8_t *compression, harupesat_size compression_len,
+                                   const uint8_t *key_kinds, harupesat_size key_kinds_len,
+                                   const uint32_t *key_ids, harupesat_size key_ids_len,
+                                   const uint8_t *cert_kinds, harupesat_size cert_kinds_len,
+                                   const uint32_t *cert_ids, harupesat_size cert_ids_len,
+                                   bool strict_agreed,
+                                   const uint8_t *payload, harupesat_size payload_len);
 
 /* ---- Channel opening (RFC 4254 sections 5.1, 6.3.2, 7.2)
  *
@@ -179,18 +201,18 @@ typedef struct {
     uint32_t recipient_channel;              /* the sender's number: the recipient of the answer */
     uint32_t recipient_window_size;
     uint32_t recipient_maximum_packet_size;
-    size_t text_start;                       /* body[text_start .. text_start + text_len], and so on */
-    size_t text_len;
+    harupesat_size text_start;               /* body[text_start .. text_start + text_len], and so on */
+    harupesat_size text_len;
     uint32_t port;
-    size_t originator_start;
-    size_t originator_len;
+    harupesat_size originator_start;
+    harupesat_size originator_len;
     uint32_t originator_port;
-    size_t rest_start;
-    size_t rest_len;
+    harupesat_size rest_start;
+    harupesat_size rest_len;
 } harupesat_open;
 
 /* CHANNEL_OPEN (90). Refuses with 1, then in field order 2, 3, 6, 5. */
-harupesat_open harupesat_read_open(const uint8_t *body, size_t body_len);
+harupesat_open harupesat_read_open(const uint8_t *body, harupesat_size body_len);
 
 typedef struct {
     uint8_t what;
@@ -202,31 +224,31 @@ typedef struct {
 } harupesat_confirmation;
 
 /* CHANNEL_OPEN_CONFIRMATION (91). Refuses with 1, 2, 6; later bytes are accepted. */
-harupesat_confirmation harupesat_read_confirmation(const uint8_t *body, size_t body_len);
+harupesat_confirmation harupesat_read_confirmation(const uint8_t *body, harupesat_size body_len);
 
 /* CHANNEL_OPEN_FAILURE (92) with any text of up to 1,024 bytes: 19 + text_len bytes. Refuses with 1, 8. */
-harupesat_written harupesat_fail(uint32_t recipient, uint8_t reason, const uint8_t *text, size_t text_len,
-                                 uint8_t *out, size_t out_len);
+harupesat_written harupesat_fail(uint32_t recipient, uint8_t reason, const uint8_t *text, harupesat_size text_len,
+                                 uint8_t *out, harupesat_size out_len);
 
 /* The failure for a type that is not known, reason 3, "Unknown channel type": 39 bytes. Refuses with 8. */
-harupesat_written harupesat_unknown_type(uint32_t recipient, uint8_t *out, size_t out_len);
+harupesat_written harupesat_unknown_type(uint32_t recipient, uint8_t *out, harupesat_size out_len);
 
 /* ---- A place, judged */
 
 typedef struct {
     uint8_t what;
     uint8_t number;
-    size_t start;    /* s[start .. start + len] may be shown */
-    size_t len;
+    harupesat_size start;  /* s[start .. start + len] may be shown */
+    harupesat_size len;
 } harupesat_shown;
 
 /* Whether a place lies inside s: an empty one at the very end does. Refuses with 2. */
-harupesat_shown harupesat_show(const uint8_t *s, size_t s_len, size_t start, size_t len);
+harupesat_shown harupesat_show(const uint8_t *s, harupesat_size s_len, harupesat_size start, harupesat_size len);
 
 /* ---- Names */
 
 /* The name of a number of a kind; 64 bytes of out are always enough. Refuses with 9, 8. */
-harupesat_written harupesat_spelling(uint8_t kind, uint8_t number, uint8_t *out, size_t out_len);
+harupesat_written harupesat_spelling(uint8_t kind, uint8_t number, uint8_t *out, harupesat_size out_len);
 
 typedef struct {
     uint8_t what;    /* REFUSED, DONE or UNKNOWN */
@@ -235,7 +257,7 @@ typedef struct {
 } harupesat_found;
 
 /* The number of a name of a kind. Refuses with 9 (no such kind). */
-harupesat_found harupesat_lookup(uint8_t kind, const uint8_t *name, size_t name_len);
+harupesat_found harupesat_lookup(uint8_t kind, const uint8_t *name, harupesat_size name_len);
 
 typedef struct {
     uint8_t what;
@@ -249,7 +271,7 @@ harupesat_flag harupesat_built_in_integrity(uint8_t cipher);
 
 /* The default preference list of a kind, as numbers; 16 bytes of out are always enough. The certificates' is empty.
  * Refuses with 9 (no such kind), 8. */
-harupesat_written harupesat_default_list(uint8_t kind, uint8_t *out, size_t out_len);
+harupesat_written harupesat_default_list(uint8_t kind, uint8_t *out, harupesat_size out_len);
 
 #ifdef __cplusplus
 }

@@ -15,7 +15,7 @@
 struct side {
     bool server;
     uint8_t list[6][16];
-    size_t len[6];
+    harupesat_size len[6];
 };
 
 /* A server's host keys: one, of kind Ed25519, which this program knows as number 1. */
@@ -46,7 +46,8 @@ static struct side default_side(bool server)
         LIST(side, COMPRESSION), key_kinds, (side)->server ? 1 : 0, key_ids, (side)->server ? 1 : 0, NULL, 0, NULL, 0
 
 /* A side's first packet: its KEXINIT, framed. */
-static size_t first_packet(const struct side *side, const uint8_t cookie[16], uint8_t *packet, size_t packet_len)
+static harupesat_size first_packet(const struct side *side, const uint8_t cookie[16], uint8_t *packet,
+                                   harupesat_size packet_len)
 {
     uint8_t payload[4096];
     harupesat_written kexinit = harupesat_write_kex(LISTS(side), cookie, 16, payload, sizeof payload);
@@ -59,7 +60,7 @@ static size_t first_packet(const struct side *side, const uint8_t cookie[16], ui
 }
 
 /* What a side settles on when the peer's first packet has come. A socket's reader would read on at HARUPESAT_NEED. */
-static harupesat_names settle(const struct side *side, const uint8_t *packet, size_t packet_len)
+static harupesat_names settle(const struct side *side, const uint8_t *packet, harupesat_size packet_len)
 {
     harupesat_frame frame = harupesat_frame_read(packet, packet_len, 0, 0);
     if (frame.what != HARUPESAT_DONE)
@@ -98,8 +99,8 @@ int main(void)
     const uint8_t client_cookie[16] = "not random: one", server_cookie[16] = "not random: two";
     uint8_t client_packet[4096 + 16], server_packet[4096 + 16];
     const struct side client = default_side(false), server = default_side(true);
-    size_t client_len = first_packet(&client, client_cookie, client_packet, sizeof client_packet);
-    size_t server_len = first_packet(&server, server_cookie, server_packet, sizeof server_packet);
+    harupesat_size client_len = first_packet(&client, client_cookie, client_packet, sizeof client_packet);
+    harupesat_size server_len = first_packet(&server, server_cookie, server_packet, sizeof server_packet);
     harupesat_names client_names = settle(&client, server_packet, server_len);
     harupesat_names server_names = settle(&server, client_packet, client_len);
     print_names("client", client_names);

@@ -1,18 +1,17 @@
-//! Finds the static library: LIBDOOR, or target/staticlib/libdoor.a of the repository that this crate stands in.
+//! Finds the static library: LIBDOOR, or the one that the repository which this crate stands in has made for the processor.
 
 use std::path::{Path, PathBuf};
 use std::{env, process};
 
 fn main() {
     println!("cargo::rerun-if-env-changed=LIBDOOR");
-    if env::var("CARGO_CFG_TARGET_ARCH").as_deref() != Ok("x86_64") {
-        stop("the static library is x86-64 code: build for x86_64-unknown-linux-gnu (bindings/test.sh shows how)");
-    }
-    let library = library();
+    let (place, made_by) = made();
+    let here = PathBuf::from(env::var_os("CARGO_MANIFEST_DIR").expect("cargo sets it"));
+    let library = here.join(env::var_os("LIBDOOR").unwrap_or(place.into()));
     println!("cargo::rerun-if-changed={}", library.display());
     if !library.is_file() {
         stop(&format!(
-            "no static library at {}: make it with 'rt staticlib door', or say where it is by LIBDOOR",
+            "no static library at {}: make it with '{made_by}', or say where it is by LIBDOOR",
             library.display()
         ));
     }
@@ -23,11 +22,14 @@ fn main() {
     println!("cargo::rustc-link-lib=static={name}");
 }
 
-fn library() -> PathBuf {
-    let here = PathBuf::from(env::var_os("CARGO_MANIFEST_DIR").expect("cargo sets it"));
-    match env::var_os("LIBDOOR") {
-        Some(path) => here.join(path),
-        None => here.join("../../target/staticlib/libdoor.a"),
+/// Where the processor's library stands, and what makes it.
+fn made() -> (&'static str, &'static str) {
+    match env::var("CARGO_CFG_TARGET_ARCH").as_deref() {
+        Ok("x86_64") => ("../../target/staticlib/libdoor.a", "rt staticlib door"),
+        Ok("aarch64") => ("../../target/staticlib/aarch64/libdoor.a", "bindings/cross.sh aarch64"),
+        Ok("riscv64") => ("../../target/staticlib/riscv64/libdoor.a", "bindings/cross.sh riscv64"),
+        Ok("arm") => ("../../target/staticlib/armv7/libdoor.a", "bindings/cross.sh armv7"),
+        _ => stop("there is a library for x86_64, aarch64, riscv64 and arm (armv7), and for no other processor"),
     }
 }
 

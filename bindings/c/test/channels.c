@@ -64,9 +64,9 @@ static void open_refusals(void)
           BYTES("\0\0\0\x21" "forwarded-streamlocal@openssh.com" OFFER "\0\0\0\0" "\0\0\0\x01" "\xff"),
           (harupesat_open){.number = 3});
     memcpy(body, "\0\0\0\0" OFFER, 16);
-    opens("the longest body", body, 262175,
+    opens("the longest body", LENT(body, 262175),
           (harupesat_open){OFFERED, .typ = 7, .text_start = 4, .rest_start = 16, .rest_len = 262159});
-    opens("a longer body", body, 262176, (harupesat_open){.number = 1});
+    opens("a longer body", LENT(body, 262176), (harupesat_open){.number = 1});
 }
 
 static void confirmations(void)
@@ -84,9 +84,9 @@ static void confirmations(void)
     is_confirmation(harupesat_read_confirmation(BYTES("\0\0\0\x05" "\0\0\0\x01" "\0\0\0\x02" "\0\0\0")),
                     (harupesat_confirmation){.number = 2});
     trying("a confirmation with maximum 0");
-    is_confirmation(harupesat_read_confirmation(zeros, 262175), (harupesat_confirmation){.number = 6});
+    is_confirmation(harupesat_read_confirmation(LENT(zeros, 262175)), (harupesat_confirmation){.number = 6});
     trying("a confirmation that is too long");
-    is_confirmation(harupesat_read_confirmation(zeros, 262176), (harupesat_confirmation){.number = 1});
+    is_confirmation(harupesat_read_confirmation(LENT(zeros, 262176)), (harupesat_confirmation){.number = 1});
 }
 
 /* "92, recipient u32, reason u32 (0 to 255), text (any bytes), "en"" */
@@ -102,11 +102,11 @@ static void failures(void)
     memset(payload + 13, 'x', 1024);
     memcpy(payload + 1037, "\0\0\0\x02" "en", 6);
     out = lend(1043);
-    is_written(harupesat_fail(9, 255, text, 1024, out, 1043), (harupesat_written){.what = DONE, .len = 1043});
+    is_written(harupesat_fail(9, 255, LENT(text, 1024), out, 1043), (harupesat_written){.what = DONE, .len = 1043});
     holds(payload, 1043);
     trying("a longer text, 1 before 8");
     out = lend(0);
-    is_written(harupesat_fail(9, 255, text, 1025, out, 0), (harupesat_written){.number = 1});
+    is_written(harupesat_fail(9, 255, LENT(text, 1025), out, 0), (harupesat_written){.number = 1});
     untouched();
     trying("a failure without room");
     out = lend(22);
@@ -126,9 +126,9 @@ static void unknown_types(void)
     untouched();
 }
 
-static void shows(size_t len, size_t start, size_t count, harupesat_shown want)
+static void shows(harupesat_size len, harupesat_size start, harupesat_size count, harupesat_shown want)
 {
-    is_shown(harupesat_show((const uint8_t *)"0123456789", len, start, count), want);
+    is_shown(harupesat_show(LENT("0123456789", len), start, count), want);
 }
 
 static void places(void)
@@ -142,9 +142,9 @@ static void places(void)
     shows(10, 11, 0, (harupesat_shown){.number = 2});
     shows(10, 3, 8, (harupesat_shown){.number = 2});
     trying("a place whose end no number holds");
-    shows(10, 1, SIZE_MAX, (harupesat_shown){.number = 2});
-    shows(10, SIZE_MAX, 1, (harupesat_shown){.number = 2});
-    shows(10, SIZE_MAX, SIZE_MAX, (harupesat_shown){.number = 2});
+    shows(10, 1, UINT64_MAX, (harupesat_shown){.number = 2});
+    shows(10, UINT64_MAX, 1, (harupesat_shown){.number = 2});
+    shows(10, UINT64_MAX, UINT64_MAX, (harupesat_shown){.number = 2});
 }
 
 void channels(void)

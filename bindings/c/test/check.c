@@ -1,6 +1,7 @@
 #include "check.h"
 
 #include <inttypes.h>
+#include <signal.h>
 #include <stdio.h>
 #include <stdlib.h>
 
@@ -12,6 +13,25 @@ void trying(const char *what)
     tried = what;
 }
 
+static const char *where(void)
+{
+    return edge == AT_END ? "lent at the end" : "lent at the start";
+}
+
+/* It is the library that strays, in the midst of no function of stdio: so this may call them. The access is then made once
+ * more, and ends the run. */
+static void stray(int number)
+{
+    fflush(stdout);
+    fprintf(stderr, "a stray read or write: %s, %s\n", tried, where());
+    signal(number, SIG_DFL);
+}
+
+void watch(void)
+{
+    signal(SIGSEGV, stray);
+}
+
 void is(const char *field, uint64_t got, uint64_t want)
 {
     if (got == want) {
@@ -19,7 +39,7 @@ void is(const char *field, uint64_t got, uint64_t want)
         return;
     }
     failed++;
-    printf("FAILED: %s: %s is %" PRIu64 ", not %" PRIu64 "\n", tried, field, got, want);
+    printf("FAILED: %s, %s: %s is %" PRIu64 ", not %" PRIu64 "\n", tried, where(), field, got, want);
 }
 
 int summary(void)
@@ -126,8 +146,9 @@ void is_flag(harupesat_flag got, harupesat_flag want)
 }
 
 /* The field that output is lent from: no two neighbouring bytes are equal, so that a shift shows too. */
-enum { MARGIN = 64, ROOM = 262176 + 64 };
-static uint8_t field[MARGIN + ROOM + MARGIN];
+enum { ROOM = 262176 + 64 };
+static struct pages field;
+static size_t start; /* where in it the bytes lent start */
 
 static uint8_t sentinel(size_t i)
 {
@@ -136,22 +157,22 @@ static uint8_t sentinel(size_t i)
 
 uint8_t *lend(size_t len)
 {
-    if (len > ROOM) {
-        fprintf(stderr, "%s: the field has no room for %zu bytes\n", tried, len);
-        exit(EXIT_FAILURE);
-    }
-    for (size_t i = 0; i < sizeof field; i++)
-        field[i] = sentinel(i);
-    return field + MARGIN;
+    if (field.at == NULL)
+        field = guarded(ROOM);
+    for (size_t i = 0; i < field.len; i++)
+        field.at[i] = sentinel(i);
+    uint8_t *out = place(field, len);
+    start = (size_t)(out - field.at);
+    return out;
 }
 
 void holds(const void *want, size_t len)
 {
     const uint8_t *front = want;
     size_t differing = 0;
-    for (size_t i = 0; i < sizeof field; i++) {
-        bool written = MARGIN <= i && i < MARGIN + len;
-        differing += field[i] != (written ? front[i - MARGIN] : sentinel(i));
+    for (size_t i = 0; i < field.len; i++) {
+        bool written = start <= i && i < start + len;
+        differing += field.at[i] != (written ? front[i - start] : sentinel(i));
     }
     is("the count of bytes that are not as they should be", differing, 0);
 }

@@ -3,6 +3,7 @@
 #ifndef CHECK_H
 #define CHECK_H
 
+#include "guard.h"
 #include "harupesat.h"
 
 #define REFUSED HARUPESAT_REFUSED
@@ -10,11 +11,13 @@
 #define NEED HARUPESAT_NEED
 #define UNKNOWN HARUPESAT_UNKNOWN
 
-/* A string's bytes, without the 0 at its end. */
-#define BYTES(text) (const uint8_t *)(text), sizeof(text) - 1
+/* Two arguments, a slice of so many elements, lent from guarded memory; and a string's bytes, without the 0 at its end. */
+#define LENT(at, count) input((at), (size_t)(count) * sizeof *(at)), (count)
+#define BYTES(text) LENT(text, sizeof(text) - 1)
 
-/* What is tried from here on: said with every comparison that fails. */
+/* What is tried from here on: said with every comparison that fails, and where a stray read or write ends the run. */
 void trying(const char *what);
+void watch(void);
 void is(const char *field, uint64_t got, uint64_t want);
 int summary(void);
 
@@ -28,13 +31,14 @@ void is_shown(harupesat_shown got, harupesat_shown want);
 void is_found(harupesat_found got, harupesat_found want);
 void is_flag(harupesat_flag got, harupesat_flag want);
 
-/* Lends so many bytes in the middle of a field of known bytes. */
+/* Lends so many bytes at the edge of a guarded field of known bytes. */
 uint8_t *lend(size_t len);
 /* The bytes lent start with these, and every other byte of the field is what it was. */
 void holds(const void *want, size_t len);
 /* No byte of the field has changed. */
 void untouched(void);
 
+void bites(void);
 void layout(void);
 void frames(void);
 void kexinits(void);

@@ -8,7 +8,7 @@ static void writes(const char *what, size_t len, size_t room, const void *packet
 {
     trying(what);
     uint8_t *out = lend(room);
-    harupesat_sealed got = harupesat_frame_write((const uint8_t *)"0123456789abcdef", len, 41, 1000, out, room);
+    harupesat_sealed got = harupesat_frame_write(LENT("0123456789abcdef", len), 41, 1000, out, room);
     is_sealed(got, (harupesat_sealed){.what = DONE, .len = total, .seqn = 42, .bytes = 1000 + len});
     holds(packet, total);
 }
@@ -26,16 +26,16 @@ static void largest(void)
     static uint8_t packet[262176] = {0x00, 0x04, 0x00, 0x1c, 0x04};
     trying("the largest payload");
     uint8_t *out = lend(262176);
-    is_sealed(harupesat_frame_write(zeros, 262167, 0, 0, out, 262176),
+    is_sealed(harupesat_frame_write(LENT(zeros, 262167), 0, 0, out, 262176),
               (harupesat_sealed){.what = DONE, .len = 262176, .seqn = 1, .bytes = 262167});
     holds(packet, sizeof packet);
     trying("one byte over the largest payload");
     out = lend(262240);
-    is_sealed(harupesat_frame_write(zeros, 262168, 5, 6, out, 262240), (harupesat_sealed){.number = 4});
+    is_sealed(harupesat_frame_write(LENT(zeros, 262168), 5, 6, out, 262240), (harupesat_sealed){.number = 4});
     untouched();
     trying("4 before 8");
     out = lend(0);
-    is_sealed(harupesat_frame_write(zeros, 262168, 5, 6, out, 0), (harupesat_sealed){.number = 4});
+    is_sealed(harupesat_frame_write(LENT(zeros, 262168), 5, 6, out, 0), (harupesat_sealed){.number = 4});
     untouched();
 }
 
@@ -44,7 +44,7 @@ static void no_room(void)
     for (size_t room = 0; room < 24; room++) {
         trying("payload 8 with less than 24 bytes of room");
         uint8_t *out = lend(room);
-        is_sealed(harupesat_frame_write(zeros, 8, 1, 2, out, room), (harupesat_sealed){.number = 8});
+        is_sealed(harupesat_frame_write(LENT(zeros, 8), 1, 2, out, room), (harupesat_sealed){.number = 8});
         untouched();
     }
 }
@@ -54,7 +54,7 @@ static void counters(void)
 {
     trying("written: counters at their ends");
     uint8_t *out = lend(16);
-    is_sealed(harupesat_frame_write(zeros, 7, UINT32_MAX, UINT64_MAX - 3, out, 16),
+    is_sealed(harupesat_frame_write(LENT(zeros, 7), UINT32_MAX, UINT64_MAX - 3, out, 16),
               (harupesat_sealed){.what = DONE, .len = 16, .seqn = 0, .bytes = UINT64_MAX});
     trying("read: counters at their ends");
     is_frame(harupesat_frame_read(BYTES("\0\0\0\x0c\x04" "abcdefg\0\0\0\0"), UINT32_MAX, UINT64_MAX - 7),

@@ -4,20 +4,20 @@
 #include <stdlib.h>
 #include <string.h>
 
-harupesat_written write_kex(struct tables t, const uint8_t *cookie, size_t cookie_len, uint8_t *out, size_t out_len)
+#define LIST(list) LENT((list).at, (list).len)
+#define TABLES(t) \
+    (t).server, LIST((t).kex), LIST((t).key), LIST((t).certificate), LIST((t).cipher), LIST((t).mac), \
+        LIST((t).compression), LIST((t).key_kinds), LIST((t).key_ids), LIST((t).cert_kinds), LIST((t).cert_ids)
+
+harupesat_written write_kex(struct tables t, const uint8_t *cookie, harupesat_size cookie_len, uint8_t *out,
+                            harupesat_size out_len)
 {
-    return harupesat_write_kex(t.server, t.kex.at, t.kex.len, t.key.at, t.key.len, t.certificate.at, t.certificate.len,
-                               t.cipher.at, t.cipher.len, t.mac.at, t.mac.len, t.compression.at, t.compression.len,
-                               t.key_kinds.at, t.key_kinds.len, t.key_ids.at, t.key_ids.len, t.cert_kinds.at,
-                               t.cert_kinds.len, t.cert_ids.at, t.cert_ids.len, cookie, cookie_len, out, out_len);
+    return harupesat_write_kex(TABLES(t), cookie, cookie_len, out, out_len);
 }
 
-harupesat_names read_kex(struct tables t, bool rekey, const uint8_t *payload, size_t payload_len)
+harupesat_names read_kex(struct tables t, bool strict_agreed, const uint8_t *payload, harupesat_size payload_len)
 {
-    return harupesat_read_kex(t.server, t.kex.at, t.kex.len, t.key.at, t.key.len, t.certificate.at, t.certificate.len,
-                              t.cipher.at, t.cipher.len, t.mac.at, t.mac.len, t.compression.at, t.compression.len,
-                              t.key_kinds.at, t.key_kinds.len, t.key_ids.at, t.key_ids.len, t.cert_kinds.at,
-                              t.cert_kinds.len, t.cert_ids.at, t.cert_ids.len, rekey, payload, payload_len);
+    return harupesat_read_kex(TABLES(t), strict_agreed, payload, payload_len);
 }
 
 struct tables client(uint8_t cipher)
@@ -70,7 +70,7 @@ static void put_string(const char *s)
     put(s, len);
 }
 
-harupesat_names read_peer(struct tables t, bool rekey, struct peer p)
+harupesat_names read_peer(struct tables t, bool strict_agreed, struct peer p)
 {
     payload_len = 0;
     put("\x14" "a peer's cookie.", 17);
@@ -86,5 +86,5 @@ harupesat_names read_peer(struct tables t, bool rekey, struct peer p)
     put_string(p.language[1]);
     put(&p.follows, 1);
     put("\0\0\0\0", 4);
-    return read_kex(t, rekey, payload, payload_len);
+    return read_kex(t, strict_agreed, LENT(payload, payload_len));
 }

@@ -28,8 +28,10 @@ struct tables {
     struct identities cert_ids;
 };
 
-harupesat_written write_kex(struct tables t, const uint8_t *cookie, size_t cookie_len, uint8_t *out, size_t out_len);
-harupesat_names read_kex(struct tables t, bool rekey, const uint8_t *payload, size_t payload_len);
+/* The lists are lent from guarded memory here; cookie, payload and output are the caller's to lend. */
+harupesat_written write_kex(struct tables t, const uint8_t *cookie, harupesat_size cookie_len, uint8_t *out,
+                            harupesat_size out_len);
+harupesat_names read_kex(struct tables t, bool strict_agreed, const uint8_t *payload, harupesat_size payload_len);
 
 /* Lists curve25519-sha256, ssh-ed25519, a cipher, hmac-sha2-256, none; of a server one Ed25519 key. */
 struct tables client(uint8_t cipher);
@@ -43,7 +45,7 @@ struct peer {
 
 /* curve25519-sha256, ssh-ed25519, chacha20-poly1305@openssh.com, hmac-sha2-256, none. */
 struct peer plain_peer(void);
-harupesat_names read_peer(struct tables t, bool rekey, struct peer p);
+harupesat_names read_peer(struct tables t, bool strict_agreed, struct peer p);
 
 enum { CHACHA20 = 10, AES128_CTR = 2 };
 

@@ -62,20 +62,21 @@ static void no_choice(void)
 /* P9, the longest payload and a byte more, bytes after the end. */
 static void lengths(void)
 {
-    static uint8_t payload[262177];
+    static const uint8_t zeros[262177];
     trying("P9, 16 bytes");
-    is_names(read_kex(client(CHACHA20), false, payload, 16), (harupesat_names){.number = 6});
+    is_names(read_kex(client(CHACHA20), false, LENT(zeros, 16)), (harupesat_names){.number = 6});
     trying("P9, 17 bytes");
-    is_names(read_kex(client(CHACHA20), false, payload, 17), (harupesat_names){.number = 2});
+    is_names(read_kex(client(CHACHA20), false, LENT(zeros, 17)), (harupesat_names){.number = 2});
     trying("262,176 bytes");
-    is_names(read_kex(client(CHACHA20), false, payload, 262176), (harupesat_names){.number = 10});
+    is_names(read_kex(client(CHACHA20), false, LENT(zeros, 262176)), (harupesat_names){.number = 10});
     trying("262,177 bytes");
-    is_names(read_kex(client(CHACHA20), false, payload, 262177), (harupesat_names){.number = 1});
+    is_names(read_kex(client(CHACHA20), false, LENT(zeros, 262177)), (harupesat_names){.number = 1});
     trying("a byte after the end");
-    harupesat_written w = write_kex(client(CHACHA20), BYTES("sixteen of them."), payload, sizeof payload);
-    is_names(read_kex(server(CHACHA20), false, payload, w.len + 1), (harupesat_names){.number = 5});
+    uint8_t *out = lend(4096);
+    harupesat_written w = write_kex(client(CHACHA20), BYTES("sixteen of them."), out, 4096);
+    is_names(read_kex(server(CHACHA20), false, LENT(out, w.len + 1)), (harupesat_names){.number = 5});
     trying("a byte short");
-    is_names(read_kex(server(CHACHA20), false, payload, w.len - 1), (harupesat_names){.number = 2});
+    is_names(read_kex(server(CHACHA20), false, LENT(out, w.len - 1)), (harupesat_names){.number = 2});
 }
 
 /* 9 of the writer and of the reader, before 8 and 6. */
@@ -84,9 +85,11 @@ static void bad(const char *what, struct tables t)
     trying(what);
     uint8_t *out = lend(4096);
     is_written(write_kex(t, BYTES("sixteen of them."), out, 4096), (harupesat_written){.number = 9});
+    untouched();
+    out = lend(0);
     is_written(write_kex(t, BYTES("sixteen of them."), out, 0), (harupesat_written){.number = 9});
     untouched();
-    is_names(read_kex(t, false, out, 16), (harupesat_names){.number = 9});
+    is_names(read_kex(t, false, BYTES("sixteen of them.")), (harupesat_names){.number = 9});
 }
 
 static const uint8_t same[17];
@@ -143,19 +146,22 @@ static void cookies(void)
     static const uint8_t cookie[17];
     uint8_t *out = lend(4096);
     trying("a cookie of 15 bytes");
-    is_written(write_kex(client(CHACHA20), cookie, 15, out, 4096), (harupesat_written){.number = 9});
+    is_written(write_kex(client(CHACHA20), LENT(cookie, 15), out, 4096), (harupesat_written){.number = 9});
+    untouched();
     trying("a cookie of 17 bytes");
-    is_written(write_kex(client(CHACHA20), cookie, 17, out, 0), (harupesat_written){.number = 9});
+    out = lend(0);
+    is_written(write_kex(client(CHACHA20), LENT(cookie, 17), out, 0), (harupesat_written){.number = 9});
     untouched();
 }
 
 static void no_room(void)
 {
-    uint8_t *out = lend(182);
     trying("KEXINIT of 182 bytes with 181 of room");
+    uint8_t *out = lend(181);
     is_written(write_kex(client(CHACHA20), BYTES("sixteen of them."), out, 181), (harupesat_written){.number = 8});
     untouched();
     trying("KEXINIT of 182 bytes with 182 of room");
+    out = lend(182);
     is_written(write_kex(client(CHACHA20), BYTES("sixteen of them."), out, 182),
                (harupesat_written){.what = DONE, .len = 182});
 }

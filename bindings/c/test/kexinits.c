@@ -34,7 +34,7 @@ static void framed(void)
 {
     trying("the KEXINIT of 182 bytes, framed");
     uint8_t *out = lend(192);
-    is_sealed(harupesat_frame_write((const uint8_t *)chacha20_kexinit, 182, 0, 0, out, 192),
+    is_sealed(harupesat_frame_write(LENT(chacha20_kexinit, 182), 0, 0, out, 192),
               (harupesat_sealed){.what = DONE, .len = 192, .seqn = 1, .bytes = 182});
     is("the length's last byte", out[3], 0xbc);
     is("the padding", out[4], 5);
@@ -105,10 +105,29 @@ static void read_plain(void)
     reads("a plain peer, read as a client", client(CHACHA20), plain_peer(), want);
     reads("a plain peer, read as a server", server(CHACHA20), plain_peer(), want);
     trying("our own KEXINIT");
-    is_names(read_kex(server(CHACHA20), false, (const uint8_t *)chacha20_kexinit, 182), want);
-    trying("the strict-rekey flag");
-    want.strict_kex = true;
-    is_names(read_peer(client(CHACHA20), true, plain_peer()), want);
+    is_names(read_kex(server(CHACHA20), false, LENT(chacha20_kexinit, 182)), want);
+}
+
+/* "Strict: own preferences hold the own-side strict name and the peer's kex list holds the other; or the caller's
+ * strict-rekey flag." */
+static void strict(void)
+{
+    struct tables c = client(CHACHA20), s = server(CHACHA20);
+    struct peer p = plain_peer();
+    harupesat_names not_strict = plain, is_strict = plain;
+    is_strict.strict_kex = true;
+    p.kex = "curve25519-sha256,kex-strict-c-v00@openssh.com,kex-strict-s-v00@openssh.com";
+    reads("a client without its strict name", (c.kex = NUMBERS(1, 9, 10, 12), c), p, not_strict);
+    reads("a server without its strict name", (s.kex = NUMBERS(1, 9, 10, 11), s), p, not_strict);
+    reads("a client with its strict name", (c.kex = NUMBERS(1, 11), c), p, is_strict);
+    reads("a server with its strict name", (s.kex = NUMBERS(1, 12), s), p, is_strict);
+    p.kex = "curve25519-sha256,kex-strict-c-v00@openssh.com";
+    reads("a client whose peer lacks its strict name", c, p, not_strict);
+    p.kex = "curve25519-sha256,kex-strict-s-v00@openssh.com";
+    reads("a server whose peer lacks its strict name", s, p, not_strict);
+    trying("strict, as was agreed before");
+    is_names(read_peer(client(CHACHA20), true, plain_peer()), is_strict);
+    is_names(read_peer(server(CHACHA20), true, plain_peer()), is_strict);
 }
 
 /* Every field of the record in turn differs from 0 and from its neighbours'. */
@@ -183,6 +202,7 @@ void kexinits(void)
     key_lists();
     longest();
     read_plain();
+    strict();
     each_name();
     p11();
     p12();

@@ -1,5 +1,6 @@
 /* What the header says without a call: the places of fields, worked out by hand from their types (a field stands at the
- * next multiple of its size; x86-64: size_t and uint64_t 8 bytes, uint32_t 4, uint8_t and bool 1), and the constants. */
+ * next multiple of its size: harupesat_size and uint64_t 8 bytes, uint32_t 4, uint8_t and bool 1; so on x86-64, aarch64,
+ * riscv64 and armv7), and the constants. */
 #include "check.h"
 
 #define AT(type, field, place) is("the place of " #type "." #field, offsetof(type, field), place)

@@ -63,8 +63,8 @@ static void finds(uint8_t kind, uint8_t number, const char *name)
 {
     size_t len = strlen(name);
     trying(name);
-    is_found(harupesat_lookup(kind, (const uint8_t *)name, len), (harupesat_found){.what = DONE, .value = number});
-    is_found(harupesat_lookup(kind, (const uint8_t *)name, len - 1), (harupesat_found){.what = UNKNOWN});
+    is_found(harupesat_lookup(kind, LENT(name, len)), (harupesat_found){.what = DONE, .value = number});
+    is_found(harupesat_lookup(kind, LENT(name, len - 1)), (harupesat_found){.what = UNKNOWN});
 }
 
 static void tables(void)
@@ -78,6 +78,8 @@ static void tables(void)
         trying("a number outside its table, 9 before 8");
         uint8_t *out = lend(64);
         is_written(harupesat_spelling(kind, number, out, 64), (harupesat_written){.number = 9});
+        untouched();
+        out = lend(0);
         is_written(harupesat_spelling(kind, 255, out, 0), (harupesat_written){.number = 9});
         untouched();
     }
@@ -89,6 +91,8 @@ static void outside(void)
         trying("a kind that is none");
         uint8_t *out = lend(64);
         is_written(harupesat_spelling((uint8_t)kind, 0, out, 64), (harupesat_written){.number = 9});
+        untouched();
+        out = lend(0);
         is_written(harupesat_default_list((uint8_t)kind, out, 0), (harupesat_written){.number = 9});
         untouched();
         is_found(harupesat_lookup((uint8_t)kind, BYTES("none")), (harupesat_found){.number = 9});

@@ -63,6 +63,7 @@ static void kex(void)
     trying("null: a KEXINIT payload");
     is_names(read_kex(client(CHACHA20), true, NULL, 0), (harupesat_names){.number = 6});
     trying("null: everything");
+    out = lend(62);
     is_written(write_kex((struct tables){0}, COOKIE, out, 62), (harupesat_written){.what = DONE, .len = 62});
     is_names(read_peer((struct tables){0}, false, plain_peer()), (harupesat_names){.number = 10});
 }

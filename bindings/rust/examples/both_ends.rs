@@ -2,7 +2,7 @@
 //! settle on is printed name by name. In a real program the two ends are two machines, the packets go through a socket, and
 //! the cookies come from the system's random numbers.
 //!
-//!     bindings/example.sh rust       or, on x86-64 in this folder,
+//!     bindings/example.sh rust       or, in the crate's folder,
 //!     cargo run --offline --example both_ends
 
 use harupesat::{Counters, Frame, KEXINIT_ROOM, KeyKind, Names, PACKET_ROOM, Tables, read_packet, write_packet};

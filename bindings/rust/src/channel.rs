@@ -1,6 +1,6 @@
-use crate::part::show_text;
+use crate::part::{front, part, show_text};
 use crate::refusal::Refusal;
-use crate::{call, ffi, show};
+use crate::{call, ffi};
 
 /// A peer's wish to open a channel (CHANNEL_OPEN, RFC 4254 section 5.1). Its texts are parts of the body that was read.
 #[derive(Clone, Copy, Debug, PartialEq, Eq)]
@@ -93,7 +93,7 @@ fn typ<'a>(open: &ffi::Open, body: &'a [u8]) -> Result<ChannelType<'a>, Refusal>
         4 => ChannelType::ForwardedTcpip(tcp),
         5 => ChannelType::ForwardedStreamLocal { socket_path: text },
         6 => ChannelType::AgentForward,
-        7 => ChannelType::Unknown { typ: text, rest: show(body, open.rest_start, open.rest_len)? },
+        7 => ChannelType::Unknown { typ: text, rest: part(body, open.rest_start, open.rest_len)? },
         new => panic!("the library answers with channel type {new}, which is new: this wrapper is older than the library"),
     })
 }
@@ -133,7 +133,7 @@ pub fn read_confirmation(body: &[u8]) -> Result<Confirmation, Refusal> {
 /// [`Refusal::TooLong`] for a text over 1,024 bytes, then [`Refusal::NoRoom`]; `out` then is as it was.
 pub fn fail<'a>(recipient: u32, reason: u8, text: &[u8], out: &'a mut [u8]) -> Result<&'a [u8], Refusal> {
     let written = call::fail(recipient, reason, text, out)?;
-    show(out, 0, written.len)
+    front(out, written.len)
 }
 
 /// Writes the failure for a type that is not known to the front of `out`, and hands that part back: 39 bytes.
@@ -142,5 +142,5 @@ pub fn fail<'a>(recipient: u32, reason: u8, text: &[u8], out: &'a mut [u8]) -> R
 /// [`Refusal::NoRoom`]; `out` then is as it was.
 pub fn unknown_type(recipient: u32, out: &mut [u8]) -> Result<&[u8], Refusal> {
     let written = call::unknown_type(recipient, out)?;
-    show(out, 0, written.len)
+    front(out, written.len)
 }

@@ -1,7 +1,8 @@
+use crate::call;
 use crate::name::{CipherName, CompressionName, KexName, KeyName, MacName};
+use crate::part::front;
 use crate::refusal::Refusal;
 use crate::tables::Tables;
-use crate::{call, show};
 
 /// An output of so many bytes is enough for any KEXINIT.
 pub const KEXINIT_ROOM: usize = 4096;
@@ -27,7 +28,8 @@ pub struct Names {
     pub host_key_is_certificate: bool,
     /// The peer's guessed packet is to be dropped.
     pub ignore_guessed: bool,
-    /// Strict key exchange is in force.
+    /// Strict key exchange is in force. The caller keeps to its rules: in the first exchange a message that is not due ends
+    /// the connection, and after each NEWKEYS that direction's sequence number is 0.
     pub strict_kex: bool,
 }
 
@@ -46,18 +48,24 @@ impl Tables {
     /// [`Refusal::BadTable`], then [`Refusal::NoRoom`]; `out` then is as it was.
     pub fn write_kex<'a>(&self, cookie: &[u8; 16], out: &'a mut [u8]) -> Result<&'a [u8], Refusal> {
         let written = call::write_kex(self, cookie, out)?;
-        show(out, 0, written.len)
+        front(out, written.len)
     }
 
-    /// What this side settles on when it reads the peer's KEXINIT payload. `strict_rekey`: strict key exchange was agreed
-    /// in the connection's first exchange.
+    /// What this side settles on when it reads the peer's KEXINIT payload.
+    ///
+    /// `strict_agreed`: strict key exchange was agreed in the connection's first exchange. In that exchange it is false,
+    /// in later ones that exchange's [`strict_kex`](Names::strict_kex); where it is true the answer's is true, whatever
+    /// the lists say. A wrong true, and this end starts its sequence numbers anew after NEWKEYS while the peer counts on.
+    /// A wrong false in a later exchange, where the peer need not list its strict name again, and the peer starts anew
+    /// while this end counts on. Either way the two ends no longer take each other's packets (but under a gcm cipher,
+    /// which does not look at the number): the connection is lost.
     ///
     /// # Errors
     /// [`Refusal::BadTable`], [`Refusal::TooLong`], [`Refusal::Inconsistent`]; then, in the order of the fields,
     /// [`Refusal::PastEnd`], [`Refusal::NotUtf8`], [`Refusal::NoKex`], [`Refusal::NoKey`], [`Refusal::NoCipher`],
     /// [`Refusal::NoMac`], [`Refusal::NoCompression`] and [`Refusal::Trailing`].
-    pub fn read_kex(&self, strict_rekey: bool, payload: &[u8]) -> Result<Names, Refusal> {
-        let names = call::read_kex(self, strict_rekey, payload)?;
+    pub fn read_kex(&self, strict_agreed: bool, payload: &[u8]) -> Result<Names, Refusal> {
+        let names = call::read_kex(self, strict_agreed, payload)?;
         Ok(Names {
             kex: KexName::from_number(names.kex)?,
             key: KeyName::from_number(names.key)?,

@@ -15,6 +15,7 @@ mod name;
 mod packet;
 mod part;
 mod refusal;
+mod size;
 mod tables;
 
 pub use channel::{ChannelOpen, ChannelType, Confirmation, TcpChannelInfo};

@@ -1,4 +1,5 @@
 use crate::kind::{Certificate, Cipher, Compression, Kex, Key, Kind, Mac};
+use crate::part::{front, show_text};
 use crate::refusal::Refusal;
 use crate::{call, ffi};
 use std::error::Error;
@@ -71,8 +72,9 @@ impl<K: Kind> Name<K> {
     /// The kind's default list, best first: russh's. The certificates' is empty.
     pub fn defaults() -> Vec<Name<K>> {
         let mut numbers = [0; 16];
-        let list = call::default_list(K::NUMBER, &mut numbers).expect("16 bytes are always enough");
-        numbers[..list.len].iter().copied().map(Name::numbered).collect()
+        let written = call::default_list(K::NUMBER, &mut numbers).expect("16 bytes are always enough");
+        let list = front(&numbers, written.len).expect("what is written stands in the output");
+        list.iter().copied().map(Name::numbered).collect()
     }
 }
 
@@ -85,7 +87,7 @@ fn spellings(kind: u8) -> &'static [String] {
 fn spelled(kind: u8, number: u8) -> Option<String> {
     let mut name = [0; 64];
     match call::spelling(kind, number, &mut name) {
-        Ok(written) => Some(String::from_utf8(name[..written.len].to_vec()).expect("names are ASCII")),
+        Ok(written) => Some(show_text(&name, 0, written.len).expect("names are ASCII").to_owned()),
         Err(Refusal::BadTable) => None,
         Err(refusal) => panic!("64 bytes are always enough for a name: {refusal}"),
     }

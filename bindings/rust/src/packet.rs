@@ -1,5 +1,7 @@
+use crate::part::{front, part};
 use crate::refusal::Refusal;
-use crate::{call, ffi, show};
+use crate::size::narrow;
+use crate::{call, ffi};
 
 /// The largest payload that a packet takes.
 pub const MOST_PAYLOAD: usize = 262_167;
@@ -20,7 +22,7 @@ pub struct Counters {
 /// What stands at the front of the bytes that have come.
 #[derive(Clone, Copy, Debug, PartialEq, Eq)]
 pub enum Frame<'a> {
-    /// No whole packet yet: this many bytes are needed in all.
+    /// No whole packet yet: this many bytes are needed in all, at most 262,181.
     Need(usize),
     /// A packet.
     Packet(Packet<'a>),
@@ -46,12 +48,12 @@ pub struct Packet<'a> {
 pub fn read_packet(bytes: &[u8], counters: Counters) -> Result<Frame<'_>, Refusal> {
     let frame = call::frame_read(bytes, counters)?;
     if frame.what == ffi::NEED {
-        return Ok(Frame::Need(frame.need));
+        return Ok(Frame::Need(narrow(frame.need)?));
     }
     Ok(Frame::Packet(Packet {
-        payload: show(bytes, frame.start, frame.len)?,
-        end: frame.end,
-        taken: frame.taken,
+        payload: part(bytes, frame.start, frame.len)?,
+        end: narrow(frame.end)?,
+        taken: narrow(frame.taken)?,
         counters: Counters { seqn: frame.seqn, bytes: frame.bytes },
     }))
 }
@@ -72,5 +74,5 @@ pub struct Sealed<'a> {
 /// [`Refusal::PacketSize`], then [`Refusal::NoRoom`]; `out` then is as it was.
 pub fn write_packet<'a>(payload: &[u8], counters: Counters, out: &'a mut [u8]) -> Result<Sealed<'a>, Refusal> {
     let sealed = call::frame_write(payload, counters, out)?;
-    Ok(Sealed { packet: show(out, 0, sealed.len)?, counters: Counters { seqn: sealed.seqn, bytes: sealed.bytes } })
+    Ok(Sealed { packet: front(out, sealed.len)?, counters: Counters { seqn: sealed.seqn, bytes: sealed.bytes } })
 }

@@ -10,6 +10,16 @@ pub enum Side {
     Server,
 }
 
+impl Side {
+    /// The extension names that this side writes.
+    fn extensions(self) -> [KexName; 2] {
+        match self {
+            Side::Client => [KexName::EXT_INFO_C, KexName::KEX_STRICT_C],
+            Side::Server => [KexName::EXT_INFO_S, KexName::KEX_STRICT_S],
+        }
+    }
+}
+
 /// The kind of a key row or a certificate row.
 #[derive(Clone, Copy, Debug, PartialEq, Eq, Hash)]
 #[repr(u8)]
@@ -88,8 +98,23 @@ impl Tables {
         self.side
     }
 
-    /// With these kex and extension names. Each side writes its own extension names and drops the other side's.
+    /// With these kex names in this order, and behind them this side's extension names, as far as the list lacks them:
+    /// strict key exchange goes on being offered. The other side's extension names may be listed, and are not written.
+    ///
+    /// What is added counts for the limit of 16 entries: a list that has no room for it is refused, as any longer one is,
+    /// with [`BadTable`](crate::Refusal::BadTable), and nothing is left out of it.
     pub fn kex(mut self, list: &[KexName]) -> Tables {
+        let lacking = self.side.extensions().into_iter().filter(|name| !list.contains(name));
+        self.kex = list.iter().copied().chain(lacking).map(Name::number).collect();
+        self
+    }
+
+    /// With exactly these kex names: no extension name is added to them.
+    ///
+    /// A list that does not itself hold this side's strict name ([`KexName::KEX_STRICT_C`] of a client,
+    /// [`KexName::KEX_STRICT_S`] of a server) gives up strict key exchange, whatever the peer lists. Somebody between the
+    /// two ends can then take away the first packets under the new keys unnoticed (Terrapin, CVE-2023-48795).
+    pub fn kex_without_extensions(mut self, list: &[KexName]) -> Tables {
         self.kex = numbers(list);
         self
     }

@@ -78,9 +78,10 @@ pub fn string(bytes: &[u8]) -> Vec<u8> {
     [&u32::try_from(bytes.len()).unwrap().to_be_bytes(), bytes].concat()
 }
 
+/// Document 01's lists hold no extension name.
 fn plain(tables: Tables, cipher: CipherName) -> Tables {
     tables
-        .kex(&[KexName::CURVE25519_SHA256])
+        .kex_without_extensions(&[KexName::CURVE25519_SHA256])
         .key(&[KeyName::SSH_ED25519])
         .cipher(&[cipher])
         .mac(&[MacName::HMAC_SHA2_256])
