@@ -1,10 +1,12 @@
 #!/bin/sh
-# Builds the benchmark, counts instructions, times where times mean something, and prints the tables of docs/BENCHMARKS.md.
-# LIBDOOR, LTO: as in bench/build.sh. RUSSH_TEXT: the folder of the Rust's text; CAPTURES: real first packets. They
-# default to ../shared/docs/src beside the repository and to crates/peers/data.
+# Builds the benchmark, counts instructions, takes times, and prints the tables of docs/BENCHMARKS.md.
+# LIBDOOR: the x86-64 library, where it is not the repository's; LTO: as in bench/build.sh. RUSSH_TEXT: the folder of the Rust's
+# text; CAPTURES: real first packets. They default to ../shared/docs/src beside the repository and to crates/peers/data.
 #
-# Instructions of a call are those of a run with 2N calls less those of a run with N, by N, so that whatever else a run does
-# falls out: by callgrind on an x86-64 machine, by a plugin of the emulator on another.
+# Instructions are those of the x86-64 library on every machine, so that counts can be held against each other: by callgrind
+# on an x86-64 machine, by a plugin of the emulator on another. Those of a call are those of a run with 2N calls less those of
+# a run with N, by N, so that whatever else a run does falls out. Times are those of the machine's own library: nothing is
+# timed under an emulator.
 set -eu
 bench=$(cd "$(dirname "$0")" && pwd)
 captures=${CAPTURES:-$bench/../crates/peers/data}
@@ -14,8 +16,14 @@ if [ ! -f "$captures/INDEX.tsv" ]; then
     exit 2
 fi
 export CAPTURES="$(cd "$captures" && pwd)"
-"$bench/build.sh" ${RUSSH_TEXT:+"$RUSSH_TEXT"}
-cd "$bench/target"
+rm -rf "$bench/target"
+FOR=x86_64 "$bench/build.sh" ${RUSSH_TEXT:+"$RUSSH_TEXT"}
+machine=$(uname -m)
+own=$bench/../target/staticlib/$machine/libdoor.a
+if [ "$machine" != x86_64 ] && [ -f "$own" ]; then
+    LIBDOOR=$own "$bench/build.sh" ${RUSSH_TEXT:+"$RUSSH_TEXT"}
+fi
+cd "$bench/target/x86_64"
 
 # libc picks its memcpy by the machine. For long ones it picks `rep movs`, of which counters count each byte: that one is
 # ruled out. The other sides have the widest registers of the machine; a side named SSE2 has those that every x86-64 has.
@@ -26,7 +34,7 @@ libc() {
     esac
 }
 
-case $(uname -m) in
+case $machine in
 x86_64)
     command -v valgrind >/dev/null || { echo "bench: no valgrind: apt-get install valgrind" >&2; exit 2; }
     runner=''
@@ -37,7 +45,7 @@ x86_64)
 *)
     runner=qemu-x86_64
     command -v cc >/dev/null || { echo "bench: no cc for the plugin: apt-get install gcc libc6-dev" >&2; exit 2; }
-    cc -O2 -Wall -Wextra -shared -fPIC -o count.so ../count.c
+    cc -O2 -Wall -Wextra -shared -fPIC -o count.so ../../count.c
     counter="qemu-x86_64 -plugin ./count.so"
     counted='s/^instructions: //p'
     tool="bench/count.c under $(qemu-x86_64 --version | head -n 1)"
@@ -63,9 +71,11 @@ while IFS=$tab read -r group case side; do
 done < list > counts
 
 echo "Instructions counted by $tool."
-if [ -z "$runner" ]; then
-    ./bench time > times
-    exec ./bench table counts times
+timed=../$machine/bench
+if [ -x "$timed" ]; then
+    "$timed" time > times
+    echo "Times of the $machine library, on this machine."
+    exec "$timed" table counts times
 fi
-echo "No times: under an emulator they say nothing."
+echo "No times: bindings/cross.sh $machine makes the library that can be timed here."
 exec $runner ./bench table counts

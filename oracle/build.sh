@@ -1,14 +1,13 @@
 #!/bin/sh
 # Builds the oracle: 16 files of russh 0.65.0, unchanged, with stand-ins for what is absent.
 #   oracle/build.sh [FOLDER OF THE RUST'S TEXT]      (../shared/docs/src beside the repository, where none is given)
-# ORACLE_FOR: host (where none is given), or x86_64 for what links our static library: machine.sh says by what.
-# LIBDOOR: our static library, if it is to be compared too (x86_64 alone).
+# FOR: the processor, the machine's own where none is given (bindings/tools.sh).
+# LIBDOOR: our static library, if it is to be compared too.
 # ORACLE_LTO: not empty, the comparison is optimised across crates.
 # Needs rustc alone: no registry, no network. What is built stands in oracle/target/.
 set -eu
 here=$(cd "$(dirname "$0")" && pwd)
 . "$here/machine.sh"
-build_for "${ORACLE_FOR:-host}"
 text=${1:-$here/../../shared/docs/src}
 if [ ! -f "$text/src/negotiation.rs" ]; then
     echo "oracle: no russh 0.65.0 text in '$text' (no src/negotiation.rs there): give its folder as the first argument" >&2
@@ -60,8 +59,8 @@ lib model "$here/model/lib.rs"
 lib ours "$here/src/ours/lib.rs"
 $rustc --edition 2024 -O --crate-type bin --crate-name record -L "$target/lib" -o "$target/record" \
     "$here/src/record.rs" $(externs)
-library=''
-if [ "${ORACLE_FOR:-host}" = x86_64 ] && [ -n "${LIBDOOR:-}" ]; then library="--cfg library -C link-arg=$LIBDOOR"; fi
-$rustc --edition 2024 -O ${ORACLE_LTO:+-C lto=fat -C codegen-units=1} --crate-type bin --crate-name compare $library \
+linked=''
+if [ -n "${LIBDOOR:-}" ]; then linked="--cfg library -C link-arg=$LIBDOOR"; fi
+$rustc --edition 2024 -O ${ORACLE_LTO:+-C lto=fat -C codegen-units=1} --crate-type bin --crate-name compare $linked \
     -L "$target/lib" -o "$target/compare" "$here/src/compare/main.rs" $(externs)
 echo "oracle: 16 files as in SHA256SUMS, built"

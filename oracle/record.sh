@@ -7,5 +7,7 @@
 set -eu
 here=$(cd "$(dirname "$0")" && pwd)
 out=${1:?oracle/record.sh OUT [N]}
+. "$here/machine.sh"
+unset LIBDOOR
 "$here/build.sh" ${RUSSH_TEXT:+"$RUSSH_TEXT"}
-exec "${ORACLE_TARGET:-$here/target}/record" "$out" "${2:-110}" "${CAPTURES:-$here/../crates/peers/data}"
+exec $runner "$target/record" "$out" "${2:-110}" "${CAPTURES:-$here/../crates/peers/data}"

@@ -2,7 +2,7 @@
 //! `ours`, which looks at everything, is what the answers are compared through.
 
 #[allow(dead_code)] // not every function is measured
-#[path = "../../oracle/src/ours/header.rs"]
+#[path = "../../bindings/rust/src/ffi.rs"]
 mod header;
 
 use header::*;

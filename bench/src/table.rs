@@ -30,31 +30,38 @@ impl Table {
     }
 
     fn head(&self, group: &Group) {
-        let (time, line) = if self.times.is_some() { (" in time |", "---|") } else { ("", "") };
+        let (time, line) = if self.times.is_some() { (" ours, ns | in time |", "---|---|") } else { ("", "") };
         println!("\n### {}\n\n| case | ours | against | theirs | ours / theirs |{time} goal | |", group.name);
         println!("|---|---|---|---|---|{line}---|---|");
     }
 
     /// The ratio of times, where times were taken. One side has none: it is a libc of its own.
+    fn in_time(&self, group: &Group, case: &Case, other: &Other) -> Option<f64> {
+        self.times.as_ref()?.ratio(group.name, case, other.who)
+    }
+
+    /// Nanoseconds of ours, and the ratio of times.
     fn time(&self, group: &Group, case: &Case, other: &Other) -> String {
-        match self.times.as_ref().map(|times| times.ratio(group.name, case, other.who)) {
-            None => String::new(),
-            Some(None) => " – |".to_string(),
-            Some(Some(ratio)) => format!(" {ratio:.3} |"),
+        let Some(times) = &self.times else { return String::new() };
+        let ours = number(times.of(group.name, case, "ours").expect("ours is timed"));
+        match self.in_time(group, case, other) {
+            None => format!(" {ours} | – |"),
+            Some(ratio) => format!(" {ours} | {ratio:.3} |"),
         }
     }
 
     fn goal(&mut self, group: &Group, case: &Case, other: &Other) -> String {
         let ours = self.count(group, case, "ours");
         let ratio = ours / self.count(group, case, other.who);
+        let time = self.in_time(group, case, other);
         match (other.goal, case.under) {
             (Some(most), _) => {
                 let name = format!("{}: at most {most} of {}", group.name, other.who);
-                format!(" {most} | {} |", self.goals.judge(name, ratio, ratio <= most))
+                format!(" {most} | {} |", self.goals.judge(name, ratio, time, |ratio| ratio <= most))
             }
             (None, Some(under)) => {
                 let name = format!("{}: under {under} instructions", group.name);
-                format!(" under {under} | {} |", self.goals.judge(name, ours, ours < under))
+                format!(" under {under} | {} |", self.goals.judge(name, ours, None, |ours| ours < under))
             }
             (None, None) => " | |".to_string(),
         }

@@ -6,7 +6,7 @@ use crate::frames::SSE2;
 use crate::{Group, repeat};
 use std::time::{Duration, Instant};
 
-const TURNS: usize = 15;
+const TURNS: usize = 60;
 const TURN: Duration = Duration::from_millis(4);
 
 fn took(call: &mut Call, times: u64) -> Duration {

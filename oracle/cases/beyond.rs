@@ -87,12 +87,12 @@ pub fn limits() -> Vec<Beyond> {
     spoilt.mac.push(5);
     for size in [262176, 262177, 262178, 300000] {
         for tables in [full(Side::Client), full(Side::Server), spoilt.clone()] {
-            all.push(Reading(Case::ReadKex { tables, rekey: false, payload: long_kexinit(size) }));
+            all.push(Reading(Case::ReadKex { tables, strict_agreed: false, payload: long_kexinit(size) }));
         }
-        all.push(Reading(Case::ReadKex { tables: full(Side::Client), rekey: false, payload: vec![0; size] }));
+        all.push(Reading(Case::ReadKex { tables: full(Side::Client), strict_agreed: false, payload: vec![0; size] }));
     }
     for size in [0, 16, 17] {
-        all.push(Reading(Case::ReadKex { tables: spoilt.clone(), rekey: true, payload: vec![0; size] }));
+        all.push(Reading(Case::ReadKex { tables: spoilt.clone(), strict_agreed: true, payload: vec![0; size] }));
     }
     for size in [262174, 262175, 262176, 262177] {
         for most in [0, 1] {
@@ -144,7 +144,7 @@ fn rooms() -> Vec<Beyond> {
 pub fn tables(t: Tables) -> Vec<Beyond> {
     let payload = plain_fields().payload();
     vec![
-        Reading(Case::ReadKex { tables: t.clone(), rekey: false, payload }),
+        Reading(Case::ReadKex { tables: t.clone(), strict_agreed: false, payload }),
         Writing { case: Case::WriteKex { tables: t.clone(), cookie: [5; 16] }, room: 0 },
         Writing { case: Case::WriteKex { tables: t, cookie: [5; 16] }, room: 4096 },
     ]
@@ -194,7 +194,7 @@ pub fn kex(r: &mut Rng) -> Beyond {
     match r.below(8) {
         0..4 => {
             let payload = if r.once_in(8) { vec![0; r.below(20)] } else { crate::kex::fields(r).payload() };
-            Reading(Case::ReadKex { tables: t, rekey: r.once_in(2), payload })
+            Reading(Case::ReadKex { tables: t, strict_agreed: r.once_in(2), payload })
         }
         4..7 => Writing { case: Case::WriteKex { tables: t, cookie: cookie(r) }, room: r.below(2000) },
         _ => {

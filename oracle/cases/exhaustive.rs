@@ -13,26 +13,26 @@ pub fn limits() -> Vec<Case> {
             let mut f = plain_fields();
             f.lists[field] = list;
             for side in [Side::Client, Side::Server] {
-                cases.push(Case::ReadKex { tables: full(side), rekey: false, payload: f.payload() });
+                cases.push(Case::ReadKex { tables: full(side), strict_agreed: false, payload: f.payload() });
             }
         }
         for n in [0u32, 1, 16384, 16385, 1 << 20, (1 << 20) + 1, 0x7FFF_FFFF, 0x8000_0000, 0xFFFF_FFFF] {
             let mut payload = plain_fields().payload();
             let at = 17 + plain_fields().lists[..field].iter().map(|l| 4 + l.len()).sum::<usize>();
             payload[at..at + 4].copy_from_slice(&n.to_be_bytes());
-            cases.push(Case::ReadKex { tables: full(Side::Server), rekey: false, payload });
+            cases.push(Case::ReadKex { tables: full(Side::Server), strict_agreed: false, payload });
         }
     }
     for side in [Side::Client, Side::Server] {
         let whole = plain_fields().payload();
         for n in 0..=whole.len() {
-            cases.push(Case::ReadKex { tables: full(side), rekey: false, payload: whole[..n].to_vec() });
+            cases.push(Case::ReadKex { tables: full(side), strict_agreed: false, payload: whole[..n].to_vec() });
         }
         // the longest payload: a language of all that is left
         for spare in [0, 1] {
             let mut f = plain_fields();
             f.lists[9] = vec![b'x'; 262176 - whole.len() - spare];
-            cases.push(Case::ReadKex { tables: full(side), rekey: false, payload: f.payload() });
+            cases.push(Case::ReadKex { tables: full(side), strict_agreed: false, payload: f.payload() });
         }
     }
     cases
@@ -83,7 +83,7 @@ pub fn small_choices() -> Vec<Case> {
                 let read = |change: &dyn Fn(&mut Tables, &mut Fields)| {
                     let (mut t, mut f) = (full(side), plain_fields());
                     change(&mut t, &mut f);
-                    Case::ReadKex { tables: t, rekey: false, payload: f.payload() }
+                    Case::ReadKex { tables: t, strict_agreed: false, payload: f.payload() }
                 };
                 for follows in [0, 1] {
                     cases.push(read(&|t, f| {
@@ -139,7 +139,7 @@ pub fn small_lists() -> Vec<Case> {
                         b
                     })
                     .collect();
-                cases.push(Case::ReadKex { tables: full(Side::Server), rekey: false, payload: f.payload() });
+                cases.push(Case::ReadKex { tables: full(Side::Server), strict_agreed: false, payload: f.payload() });
             }
         }
     }

@@ -89,7 +89,7 @@ pub fn cookie(r: &mut Rng) -> [u8; 16] {
 }
 
 fn read(r: &mut Rng, tables: &Tables, payload: Vec<u8>) -> Case {
-    Case::ReadKex { tables: tables.clone(), rekey: r.once_in(8), payload }
+    Case::ReadKex { tables: tables.clone(), strict_agreed: r.once_in(8), payload }
 }
 
 /// What two sides of the Rust write, and what each reads of the other; and of a damaged copy.

@@ -1,6 +1,7 @@
-//! Cases: what is asked of the oracle and of the model, made with fixed seeds.
+//! Cases: what is asked of the oracle and of the model, the random ones made from a seed.
 
 pub mod beyond;
+pub mod captures;
 pub mod channels;
 pub mod exhaustive;
 pub mod frames;
@@ -12,14 +13,15 @@ pub mod rng;
 pub mod tables;
 pub mod tried;
 
-pub use tried::{captured, document, tried};
+pub use captures::{captured, captures};
+pub use tried::{document, tried};
 
 use plain::{Confirmation, Counters, Names, Opening, Out, Read, Tables};
 use russh::door;
 
 #[derive(Debug, Clone)]
 pub enum Case {
-    ReadKex { tables: Tables, rekey: bool, payload: Vec<u8> },
+    ReadKex { tables: Tables, strict_agreed: bool, payload: Vec<u8> },
     WriteKex { tables: Tables, cookie: [u8; 16] },
     FrameRead { bytes: Vec<u8>, counters: Counters },
     FrameWrite { payload: Vec<u8>, counters: Counters },
@@ -92,7 +94,9 @@ impl Case {
     /// the oracle's answer
     pub fn oracle(&self) -> Answer {
         match self {
-            Case::ReadKex { tables, rekey, payload } => Answer::Names(door::read_kex(tables, *rekey, payload)),
+            Case::ReadKex { tables, strict_agreed, payload } => {
+                Answer::Names(door::read_kex(tables, *strict_agreed, payload))
+            }
             Case::WriteKex { tables, cookie } => Answer::Bytes(Ok(door::write_kex(tables, cookie))),
             Case::FrameRead { bytes, counters } => Answer::Read(door::frame_read(bytes, *counters)),
             Case::FrameWrite { payload, counters } => Answer::Sealed(Ok(door::frame_write(payload, *counters))),

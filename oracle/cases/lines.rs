@@ -43,7 +43,9 @@ fn counters(k: &Counters) -> String {
 
 pub fn case(c: &Case) -> String {
     let asked = match c {
-        Case::ReadKex { tables: t, rekey, payload } => format!("{} {} {}", tables(t), *rekey as u8, quoted(payload)),
+        Case::ReadKex { tables: t, strict_agreed, payload } => {
+            format!("{} {} {}", tables(t), *strict_agreed as u8, quoted(payload))
+        }
         Case::WriteKex { tables: t, cookie } => format!("{} {}", tables(t), quoted(cookie)),
         Case::FrameRead { bytes, counters: k } => format!("{} {}", counters(k), quoted(bytes)),
         Case::FrameWrite { payload, counters: k } => format!("{} {}", counters(k), quoted(payload)),

@@ -1,5 +1,4 @@
-//! Document 01's tried bytes as cases with the answers that it gives, C1's correction of P12 among them, and the real
-//! first packets.
+//! Document 01's tried bytes as cases with the answers that it gives, C1's correction of P12 among them.
 
 use crate::{Answer, Case};
 use crate::kex::{full, plain_fields};
@@ -22,7 +21,7 @@ fn tries(what: &'static str, case: Case, says: impl Fn(&Answer) -> bool + 'stati
 fn kex(t: Tables, change: impl Fn(&mut crate::kex::Fields)) -> Case {
     let mut f = plain_fields();
     change(&mut f);
-    Case::ReadKex { tables: t, rekey: false, payload: f.payload() }
+    Case::ReadKex { tables: t, strict_agreed: false, payload: f.payload() }
 }
 
 fn frames(all: &mut Vec<Tried>) {
@@ -87,7 +86,7 @@ pub fn document() -> Vec<Tried> {
     let mut all = Vec::new();
     frames(&mut all);
     for (n, expected) in [(16, 6), (17, 2)] {
-        let case = Case::ReadKex { tables: full(Side::Client), rekey: false, payload: vec![0; n] };
+        let case = Case::ReadKex { tables: full(Side::Client), strict_agreed: false, payload: vec![0; n] };
         all.push(tries("P9", case, move |a| a.number() == expected));
     }
     channels(&mut all);
@@ -115,25 +114,4 @@ pub fn tried() -> Vec<Case> {
     };
     assert_eq!(door::frame_write(&vec![0; 262167], ZERO).0.len(), 262176, "document 01's largest payload");
     document().into_iter().map(judged).collect()
-}
-
-/// A real first packet: the frame, then its payload as either side with the default tables and a key of each kind, with
-/// certificates and without.
-pub fn captured(bytes: &[u8]) -> Vec<Case> {
-    let mut cases = vec![Case::FrameRead { bytes: bytes.to_vec(), counters: ZERO }];
-    let Ok(Read::Packet { payload, .. }) = door::frame_read(bytes, ZERO) else {
-        return cases;
-    };
-    let (kinds, ids) = ([0, 1, 2, 3, 4], [10, 11, 12, 13, 14]);
-    let mut certified = door::defaults(Side::Client, &[], &[], &[], &[]);
-    certified.certificate = (0..7).collect();
-    for tables in [
-        door::defaults(Side::Client, &[], &[], &[], &[]),
-        certified,
-        door::defaults(Side::Server, &kinds, &ids, &[], &[]),
-        door::defaults(Side::Server, &kinds, &ids, &[4, 0], &[14, 10]),
-    ] {
-        cases.push(Case::ReadKex { tables, rekey: false, payload: payload.clone() });
-    }
-    cases
 }

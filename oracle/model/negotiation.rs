@@ -40,8 +40,8 @@ fn settleMac<'a>(cipher: Name, mac: Option<Name<'a>>) -> Out<Name<'a>> {
     }
 }
 
-fn strict(t: &Tables, rekey: bool, peer: &[Name]) -> bool {
-    t.kex.contains(&strictName(t.side)) && listed(spelled(Kind::Kex, strictName(t.side.other())), peer) || rekey
+fn strict(t: &Tables, strictAgreed: bool, peer: &[Name]) -> bool {
+    t.kex.contains(&strictName(t.side)) && listed(spelled(Kind::Kex, strictName(t.side.other())), peer) || strictAgreed
 }
 
 fn isCertificate(name: Name) -> bool {
@@ -52,7 +52,7 @@ fn keyNumber(name: Name) -> u8 {
     number(if isCertificate(name) { Kind::Certificate } else { Kind::Key }, name)
 }
 
-pub fn readKex(t: &Tables, rekey: bool, p: &[u8]) -> Out<Names> {
+pub fn readKex(t: &Tables, strictAgreed: bool, p: &[u8]) -> Out<Names> {
     guard(9, valid(t))?;
     guard(1, p.len() <= MOST_PAYLOAD)?;
     guard(6, 17 <= p.len())?;
@@ -86,7 +86,7 @@ pub fn readKex(t: &Tables, rekey: bool, p: &[u8]) -> Out<Names> {
         server_compression: number(Kind::Compression, serverCompression),
         host_key_is_certificate: isCertificate(key),
         ignore_guessed: follows != 0 && !(bothFirst(&kexChosen(t), &kexes) && bothFirst(&keyList(t), &keys)),
-        strict_kex: strict(t, rekey, &kexes),
+        strict_kex: strict(t, strictAgreed, &kexes),
     })
 }
 

@@ -8,18 +8,6 @@ use std::io::{BufWriter, Result, Write};
 
 const SEED: u64 = 0x5265_636F_7264_6564;
 
-fn captures(folder: &str) -> Result<Vec<(String, Vec<u8>)>> {
-    let mut files = Vec::new();
-    for entry in std::fs::read_dir(folder)? {
-        let path = entry?.path();
-        if path.extension().is_some_and(|e| e == "bin") {
-            files.push((path.file_name().unwrap_or_default().to_string_lossy().into_owned(), std::fs::read(&path)?));
-        }
-    }
-    files.sort();
-    Ok(files)
-}
-
 /// of the short packets: padding up to two more than the length, and 255
 fn few(case: &Case) -> bool {
     match case {
@@ -48,15 +36,15 @@ fn at_an_edge(case: &Case) -> bool {
 /// every fifth KEXINIT read in a rekey of a strict connection
 fn rekeyed((i, case): (usize, Case)) -> Case {
     match case {
-        Case::ReadKex { tables, payload, .. } => Case::ReadKex { tables, rekey: i % 5 == 0, payload },
+        Case::ReadKex { tables, payload, .. } => Case::ReadKex { tables, strict_agreed: i % 5 == 0, payload },
         other => other,
     }
 }
 
 /// What the list holds: some of each family that `compare` tries, so that it stays small enough to be kept and replayed.
-pub fn families(n: usize, folder: &str) -> Result<Vec<(String, Vec<Case>)>> {
+pub fn families(n: usize, folder: &str) -> Vec<(String, Vec<Case>)> {
     let mut all: Vec<(String, Vec<Case>)> = vec![("document 01's tried bytes".into(), cases::tried())];
-    for (file, bytes) in captures(folder)? {
+    for (file, bytes) in cases::captures(folder) {
         all.push((file, cases::captured(&bytes)));
     }
     let mut add = |what: &str, cases: Vec<Case>| all.push((what.into(), cases));
@@ -82,17 +70,19 @@ pub fn families(n: usize, folder: &str) -> Result<Vec<(String, Vec<Case>)>> {
         let mut r = Rng::new(SEED + family);
         add(what, (0..n).map(|_| make(&mut r)).collect());
     }
-    Ok(all)
+    all
 }
 
 fn main() -> Result<()> {
     let args: Vec<String> = std::env::args().skip(1).collect();
     let [file, n, folder] = &args[..] else { panic!("record OUT N FOLDER") };
     let n: usize = n.parse().expect("N is a number");
+    // before the file is made anew: without the first packets it stays as it was
+    let families = families(n, folder);
     let mut out = BufWriter::new(std::fs::File::create(file)?);
     let mut counts: BTreeMap<&str, BTreeMap<String, u64>> = BTreeMap::new();
     writeln!(out, "# Answers of russh 0.65.0, made by oracle/record.sh (oracle/README.md); seed {SEED:#x}, N {n}")?;
-    for (what, cases) in families(n, folder)? {
+    for (what, cases) in families {
         writeln!(out, "# {what}")?;
         for case in cases {
             let answer = case.oracle();

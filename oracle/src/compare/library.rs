@@ -6,11 +6,8 @@ use cases::named::Named;
 use cases::{Answer, Case};
 use plain::{Out, Tables};
 
-/// In a refusal's place: a byte was changed that must not be, before or past the end of `out`.
+/// In a refusal's place: a byte of `out` was changed that must not be. Whoever writes outside of it ends the run.
 const TOUCHED: u8 = 254;
-
-/// bytes past the end of `out` that are watched too
-const MARGIN: usize = 8;
 
 /// What stands in `out` before: no byte that the writers write all the time.
 fn before(n: usize) -> Vec<u8> {
@@ -19,9 +16,9 @@ fn before(n: usize) -> Vec<u8> {
 
 /// What is written at the front of an `out` of so many bytes, all else in it unchanged.
 fn lent<T>(room: usize, write: impl FnOnce(&mut [u8]) -> Out<(usize, T)>) -> Out<(Vec<u8>, T)> {
-    let untouched = before(room + MARGIN);
+    let untouched = before(room);
     let mut out = untouched.clone();
-    let answer = write(&mut out[..room]);
+    let answer = write(&mut out);
     let n = answer.as_ref().map_or(0, |(n, _)| *n);
     if n > room {
         return Err(ours::MALFORMED);
@@ -51,7 +48,7 @@ fn writing(case: &Case, room: usize) -> Answer {
 /// A writer gets an `out` of exactly `room` bytes.
 pub fn case(case: &Case, room: usize) -> Answer {
     match case {
-        Case::ReadKex { tables, rekey, payload } => Answer::Names(ours::read_kex(tables, *rekey, payload)),
+        Case::ReadKex { tables, strict_agreed, payload } => Answer::Names(ours::read_kex(tables, *strict_agreed, payload)),
         Case::FrameRead { bytes, counters } => {
             Answer::Read(ours::frame_read(bytes, *counters).map(|(read, _)| read))
         }

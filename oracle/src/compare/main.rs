@@ -1,13 +1,17 @@
 //! The proved library, the Rust's text (the oracle) and the model (our definitions, in Rust), case by case. Built without
 //! the library (no `--cfg library`) it compares the model with the oracle alone.
-//!   compare N FOLDER-OF-CAPTURES [first]      first: ends at the first disagreement
+//!   compare N FOLDER-OF-CAPTURES [library|model]      ends at the first disagreement of that one
+//! SEED: what the random cases are made from (seed.rs).
 
 mod counts;
 mod modelled;
 mod question;
 mod rows;
+mod seed;
 mod tally;
 
+#[cfg(library)]
+mod fault;
 #[cfg(library)]
 mod library;
 
@@ -16,22 +20,8 @@ use cases::{Case, channels, exhaustive, frames, kex, named, tables};
 use plain::Side;
 use question::Question;
 use russh::door;
+use seed::Seed;
 use tally::Tally;
-
-const SEED: u64 = 0x4861_7275_7065_7361;
-
-/// the real first packets, read as either side with the default tables and a key of each kind
-fn captures(folder: &str) -> Vec<Case> {
-    let mut files: Vec<_> = std::fs::read_dir(folder).map(|d| d.flatten().map(|e| e.path()).collect()).unwrap_or_default();
-    files.retain(|f| f.extension().is_some_and(|e| e == "bin"));
-    files.sort();
-    let mut cases = Vec::new();
-    for file in files {
-        let bytes = std::fs::read(&file).expect("a capture can be read");
-        cases.extend(cases::captured(&bytes));
-    }
-    cases
-}
 
 /// Whether each row is shown by running the text.
 fn differences() -> bool {
@@ -45,6 +35,23 @@ fn differences() -> bool {
     rows.iter().all(|(_, holds)| *holds)
 }
 
+/// Whether the library could not overstep what it is lent and go on.
+#[cfg(library)]
+fn guarded() -> bool {
+    println!("Stand-ins that overstep what they are lent are ended, each in a child:");
+    let all = ours::bites();
+    for (what, holds) in &all {
+        println!("  {} {what}", if *holds { "shown" } else { "NOT SO" });
+    }
+    fault::watched();
+    all.iter().all(|(_, holds)| *holds)
+}
+
+#[cfg(not(library))]
+fn guarded() -> bool {
+    true
+}
+
 /// Whether the answers to document 01's tried bytes are the ones that it gives, whoever is asked.
 fn document() -> bool {
     let mut right = true;
@@ -52,7 +59,7 @@ fn document() -> bool {
         let (_, answer, voices) = Question::Case(tried.case).asked();
         let answers = voices.iter().map(|v| (v.who, &v.answer)).chain([("the oracle", &answer)]);
         for (who, _) in answers.filter(|(_, answer)| !(tried.says)(answer)) {
-            println!("disagreement: document 01's {} and {who}", tried.what);
+            println!("NOT SO: document 01's {}, says {who}", tried.what);
             right = false;
         }
     }
@@ -64,16 +71,16 @@ fn table_limits() -> Vec<Case> {
     let mut cases = Vec::new();
     for (_, t) in tables::limits().into_iter().filter(|(inside, _)| *inside) {
         let payload = kex::plain_fields().payload();
-        cases.push(Case::ReadKex { tables: t.clone(), rekey: false, payload });
+        cases.push(Case::ReadKex { tables: t.clone(), strict_agreed: false, payload });
         cases.push(Case::WriteKex { tables: t, cookie: [5; 16] });
     }
     cases
 }
 
-fn exhaustively(tally: &mut Tally, folder: &str) {
+fn exhaustively(tally: &mut Tally, captures: &[(String, Vec<u8>)]) {
     let mut all = |what: &str, cases: &mut dyn Iterator<Item = Case>| tally.ask_all(what, cases.map(Question::Case));
     all("document 01's tried bytes", &mut cases::document().into_iter().map(|t| t.case));
-    all("real first packets", &mut captures(folder).into_iter());
+    all("real first packets", &mut captures.iter().flat_map(|(_, bytes)| cases::captured(bytes)));
     all("short packets: every length to 40, padding and slice", &mut frames::short(40));
     all("packets at their limits", &mut frames::limits().into_iter());
     all("KEXINITs at their limits", &mut exhaustive::limits().into_iter());
@@ -98,23 +105,23 @@ const FAMILIES: [(&str, usize, Make); 6] = [
     ("7: failures", 3, channels::fail),
 ];
 
-fn randomly(tally: &mut Tally, n: usize) {
-    println!("random cases, seed {SEED:#x} and the family's number, {n} KEXINITs of each family, {} of the others:", 3 * n);
-    let mut r = Rng::new(SEED + 1);
+fn randomly(tally: &mut Tally, seed: Seed, n: usize) {
+    println!("random cases, seed {seed} and the family's number, {n} KEXINITs of each family, {} of the others:", 3 * n);
+    let mut r = seed.of_family(1);
     let pairs = (0..n.div_ceil(6)).flat_map(|_| kex::pair(&mut r)).map(Question::Case);
     tally.ask_all("1: pairs written by the Rust, read, and read damaged", pairs);
     for ((what, times, make), family) in FAMILIES.into_iter().zip(2..) {
-        let mut r = Rng::new(SEED + family);
+        let mut r = seed.of_family(family);
         tally.ask_all(what, (0..times * n).map(|_| Question::Case(make(&mut r))));
     }
 }
 
 /// What only the library and the model can answer, and pairs that the library writes.
 #[cfg(library)]
-fn with_library(tally: &mut Tally, n: usize) {
+fn with_library(tally: &mut Tally, seed: Seed, n: usize) {
     use cases::beyond;
 
-    let mut r = Rng::new(SEED + 8);
+    let mut r = seed.of_family(8);
     let pairs = (0..n.div_ceil(6)).flat_map(|_| kex::pair_by(&mut r, &library::write_kex)).map(Question::Case);
     tally.ask_all("8: pairs written by the library, read, and read damaged", pairs);
     for ((what, make), family) in [
@@ -124,7 +131,7 @@ fn with_library(tally: &mut Tally, n: usize) {
     .into_iter()
     .zip(9..)
     {
-        let mut r = Rng::new(SEED + family);
+        let mut r = seed.of_family(family);
         tally.ask_all(what, (0..n).map(|_| Question::Beyond(make(&mut r))));
     }
     tally.ask_all("limits that the Rust has not", beyond::limits().into_iter().map(Question::Beyond));
@@ -133,15 +140,23 @@ fn with_library(tally: &mut Tally, n: usize) {
 }
 
 #[cfg(not(library))]
-fn with_library(_: &mut Tally, _: usize) {}
+fn with_library(_: &mut Tally, _: Seed, _: usize) {}
 
 fn main() {
     let mut args = std::env::args().skip(1);
     let n: usize = args.next().map_or(500_000, |a| a.parse().expect("N is a number"));
-    let folder = args.next().unwrap_or_default();
-    let first = args.next().is_some();
+    let captures = cases::captures(&args.next().unwrap_or_default());
+    let first = args.next().map(|who| match &who[..] {
+        "library" => "the library",
+        "model" => "the model",
+        _ => panic!("the first disagreement of the library or of the model"),
+    });
     let mut tally = Tally::new(first);
+    let seed = Seed::given();
+    let model = if cfg!(library) { "" } else { "model " };
+    println!("Seed {seed}. To repeat this run: SEED={seed} oracle/compare.sh {model}{n}");
 
+    let guarded = guarded();
     let shown = differences();
     for side in [Side::Client, Side::Server] {
         let tables = [door::defaults, model::preferred::defaults].map(|f| f(side, &[], &[], &[], &[]));
@@ -153,14 +168,14 @@ fn main() {
     let tried = document();
 
     println!("   oracle     model  (cases compared with the oracle; with the model alone)");
-    if first {
+    if first.is_some() {
         // most mutants are seen by a few random cases
-        randomly(&mut tally, n / 50);
-        with_library(&mut tally, n / 50);
+        randomly(&mut tally, seed, n / 50);
+        with_library(&mut tally, seed, n / 50);
     }
-    exhaustively(&mut tally, &folder);
-    randomly(&mut tally, n);
-    with_library(&mut tally, n);
-    let right = tally.report() && shown && rows && tried;
+    exhaustively(&mut tally, &captures);
+    randomly(&mut tally, seed, n);
+    with_library(&mut tally, seed, n);
+    let right = tally.report() && guarded && shown && rows && tried;
     std::process::exit(!right as i32);
 }

@@ -52,7 +52,9 @@ fn read(bytes: &[u8], read: framing::Read) -> Read {
 
 pub fn case(case: &Case) -> Answer {
     match case {
-        Case::ReadKex { tables, rekey, payload } => Answer::Names(out(negotiation::readKex(tables, *rekey, payload))),
+        Case::ReadKex { tables, strict_agreed, payload } => {
+            Answer::Names(out(negotiation::readKex(tables, *strict_agreed, payload)))
+        }
         Case::WriteKex { tables, cookie } => Answer::Bytes(out(negotiation::writeKex(tables, cookie))),
         Case::FrameRead { bytes, counters } => {
             Answer::Read(out(framing::readPacket(bytes, *counters)).map(|r| read(bytes, r)))

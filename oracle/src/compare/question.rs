@@ -82,12 +82,12 @@ impl Question {
 
     #[cfg(library)]
     fn library(&self, answer: &Answer, voices: &mut Vec<Voice>) {
-        use crate::library;
-        let answer = match self {
+        use crate::{fault, library};
+        let answer = fault::asking(self, || match self {
             C(case) => library::case(case, written(answer).unwrap_or(0)),
             N(named) => library::named(named),
             B(beyond) => library::beyond(beyond),
-        };
+        });
         voices.push(Voice { who: "the library", answer });
     }
 
@@ -168,12 +168,12 @@ fn fewer_beyond(beyond: &Beyond) -> Vec<Beyond> {
 fn fewer_in(case: &Case) -> Vec<Case> {
     let mut all = Vec::new();
     match case {
-        Case::ReadKex { tables, rekey, payload } => {
+        Case::ReadKex { tables, strict_agreed, payload } => {
             for t in fewer(tables) {
-                all.push(Case::ReadKex { tables: t, rekey: *rekey, payload: payload.clone() });
+                all.push(Case::ReadKex { tables: t, strict_agreed: *strict_agreed, payload: payload.clone() });
             }
             for p in shorter(payload) {
-                all.push(Case::ReadKex { tables: tables.clone(), rekey: *rekey, payload: p });
+                all.push(Case::ReadKex { tables: tables.clone(), strict_agreed: *strict_agreed, payload: p });
             }
         }
         Case::WriteKex { tables, cookie } => {

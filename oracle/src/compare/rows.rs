@@ -66,13 +66,13 @@ fn fields() -> Fields {
 fn kexinit(row: &'static str, tables: Tables, change: impl Fn(&mut Fields), says: &'static str) -> Row {
     let mut f = fields();
     change(&mut f);
-    case(row, Case::ReadKex { tables, rekey: false, payload: f.payload() }, says)
+    case(row, Case::ReadKex { tables, strict_agreed: false, payload: f.payload() }, says)
 }
 
 /// a payload that ends after its first list: what is said of that list, or of no shared name in it
 fn first_list(row: &'static str, list: &[u8], says: &'static str) -> Row {
     let payload = [&[0; 17][..], &(list.len() as u32).to_be_bytes(), list].concat();
-    case(row, Case::ReadKex { tables: least(Side::Client), rekey: false, payload }, says)
+    case(row, Case::ReadKex { tables: least(Side::Client), strict_agreed: false, payload }, says)
 }
 
 fn packet(row: &'static str, bytes: &[u8], says: &'static str) -> Row {
@@ -103,10 +103,11 @@ fn corrected() -> Vec<Row> {
 }
 
 fn departures() -> Vec<Row> {
-    let mut any = fields().payload();
-    any[0] = 0;
-    let last = any.len() - 1;
-    any[last] = 1;
+    let mut payload = fields().payload();
+    payload[0] = 0;
+    let last = payload.len() - 1;
+    payload[last] = 1;
+    let any = Case::ReadKex { tables: least(Side::Client), strict_agreed: false, payload };
     let mut ctr = least(Side::Client);
     (ctr.cipher, ctr.mac) = (vec![2], vec![0, 4]);
     let both = |f: &mut Fields| {
@@ -129,7 +130,7 @@ fn departures() -> Vec<Row> {
         case("R6, R21", Case::Fail { recipient: 0, reason: 0, text: vec![0xFF] }, FAILED),
         opening("R7", b"", 0, &[], "no 6"),
         kexinit("R8, R12", least(Side::Client), |_| {}, "ok 1 6 1 0 0 0 0 0 0 0"),
-        case("R10", Case::ReadKex { tables: least(Side::Client), rekey: false, payload: any }, "ok 1 6 1 0 0 0 0 0 0 0"),
+        case("R10", any, "ok 1 6 1 0 0 0 0 0 0 0"),
         case("R11", Case::WriteKex { tables: nothing, cookie: [0; 16] }, r#"ok "\14\00*61.""#),
         kexinit("R12", ctr, both, "no 13"),
         opening("R13", "é".as_bytes(), 1, &[], r#"ok 0 0 1 unknown "\c3\a9" """#),
@@ -149,7 +150,7 @@ fn departures() -> Vec<Row> {
 }
 
 fn added() -> Vec<Row> {
-    let read = |tables, size| Beyond::Reading(Case::ReadKex { tables, rekey: false, payload: vec![0; size] });
+    let read = |tables, size| Beyond::Reading(Case::ReadKex { tables, strict_agreed: false, payload: vec![0; size] });
     let fail = |text: usize, room| {
         Beyond::Writing { case: Case::Fail { recipient: 0, reason: 0, text: vec![0; text] }, room }
     };

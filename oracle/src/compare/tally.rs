@@ -10,8 +10,8 @@ type Difference = (&'static str, String, &'static str, String);
 
 #[derive(Default)]
 pub struct Tally {
-    /// end at the first disagreement
-    first: bool,
+    /// whose first disagreement ends the run
+    first: Option<&'static str>,
     oracle: Counts,
     model: Counts,
     /// how many, and the smallest question
@@ -19,7 +19,7 @@ pub struct Tally {
 }
 
 impl Tally {
-    pub fn new(first: bool) -> Tally {
+    pub fn new(first: Option<&'static str>) -> Tally {
         Tally { first, ..Tally::default() }
     }
 
@@ -55,7 +55,7 @@ impl Tally {
                 *kept = small;
             }
         }
-        if self.first {
+        if self.first == Some(difference.2) {
             println!("disagreement:");
             show(kept);
             std::process::exit(1);

@@ -67,9 +67,9 @@ fn config(t: &Tables) -> server::Config {
 }
 
 /// `Select::read_kex` of the tables' side on a payload. The tables are valid: the Rust has no number 9.
-pub fn read_kex(t: &Tables, rekey: bool, payload: &[u8]) -> Out<Names> {
+pub fn read_kex(t: &Tables, strict_agreed: bool, payload: &[u8]) -> Out<Names> {
     let pref = preferred(t);
-    let cause = match rekey {
+    let cause = match strict_agreed {
         true => KexCause::Rekey { strict: true, session_id: CryptoVec::new() },
         false => KexCause::Initial,
     };

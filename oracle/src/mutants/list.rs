@@ -4,6 +4,7 @@ use std::path::Path;
 
 pub struct Mutant {
     pub label: String,
+    /// which file of the copy; of a library, which processors
     pub file: String,
     changes: Vec<(String, String)>,
 }
@@ -42,6 +43,15 @@ impl Mutant {
         self.label.starts_with('=')
     }
 
+    /// The one change of bytes, \hh being a byte: both are as long, and one byte differs.
+    pub fn byte(&self) -> (Vec<u8>, Vec<u8>) {
+        let [(old, new)] = &self.changes[..] else { panic!("{}: one change", self.label) };
+        let (old, new) = (bytes(old), bytes(new));
+        let differ = old.iter().zip(&new).filter(|(a, b)| a != b).count();
+        assert!(old.len() == new.len() && differ == 1, "{}: one byte", self.label);
+        (old, new)
+    }
+
     /// Makes the changes in a copy's file: each at its first place after the one before.
     pub fn apply(&self, copy: &Path) {
         let file = copy.join(&self.file);
@@ -54,4 +64,14 @@ impl Mutant {
         }
         std::fs::write(&file, text).expect("the mutant is written");
     }
+}
+
+fn bytes(text: &str) -> Vec<u8> {
+    let mut parts = text.split('\\');
+    let mut all = parts.next().unwrap_or_default().as_bytes().to_vec();
+    for part in parts {
+        all.push(u8::from_str_radix(&part[..2], 16).expect("\\hh is a byte"));
+        all.extend(part[2..].as_bytes());
+    }
+    all
 }

@@ -1,8 +1,11 @@
 //! What the comparison would catch: one thing changed at a time, for each of a list.
-//!   mutants definitions|text|code ORACLE-FOLDER TARGET N CAPTURES FIRST      FIRST: which of the list, counted from 1
+//!   mutants definitions|text|code|library ORACLE-FOLDER TARGET N CAPTURES FIRST      FIRST: of the list, from 1 on
 //! RUSTC: the compiler with its options; RUNNER: what runs its programs; LIBDOOR: our static library (oracle/machine.sh).
 
+mod archive;
+mod compared;
 mod list;
+mod made;
 mod trial;
 
 use list::Mutant;
@@ -24,25 +27,27 @@ impl Setting {
 
 fn main() {
     let args: Vec<String> = std::env::args().skip(1).collect();
-    let [kind, oracle, target, n, captures, first] = &args[..] else { panic!("mutants KIND ORACLE TARGET N CAPTURES FIRST") };
+    let [kind, oracle, target, n, captures, first] = &args[..] else {
+        panic!("mutants KIND ORACLE TARGET N CAPTURES FIRST")
+    };
     let first: usize = first.parse().expect("FIRST is a number");
     let s = Setting { oracle: oracle.into(), target: target.into(), n: n.clone(), captures: captures.clone() };
     let table = std::fs::read_to_string(Path::new(oracle).join(format!("mutants/{kind}.txt"))).expect("a list of mutants");
-    let try_it: fn(&Setting, &Mutant) -> trial::Seen = match &kind[..] {
-        "definitions" => trial::definitions,
-        "text" => trial::text,
-        "code" => trial::code,
-        _ => panic!("mutants of definitions, text or code"),
+    let try_it: fn(&Setting, &Mutant) -> Vec<trial::Seen> = match &kind[..] {
+        "definitions" => |s, m| vec![trial::definitions(s, m)],
+        "text" => |s, m| vec![trial::text(s, m)],
+        "code" => |s, m| vec![trial::code(s, m)],
+        "library" => trial::library,
+        _ => panic!("mutants of definitions, text, code or library"),
     };
-    if kind == "code" {
-        trial::unchanged_code(&s);
-    }
+    trial::unchanged(&s, kind);
+    println!("passes with nothing changed");
     let (mut right, mut wrong) = (0, 0);
     for m in list::parsed(&table).into_iter().skip(first - 1) {
-        let seen = try_it(&s, &m);
-        let as_it_must_be = seen.caught != m.changes_nothing();
-        if as_it_must_be { right += 1 } else { wrong += 1 }
-        println!("{} {}{}", if seen.caught { "seen  " } else { "UNSEEN" }, m.label, seen.how);
+        for seen in try_it(&s, &m) {
+            *if seen.caught != m.changes_nothing() { &mut right } else { &mut wrong } += 1;
+            println!("{} {}{}", if seen.caught { "seen  " } else { "UNSEEN" }, m.label, seen.how);
+        }
     }
     println!("{right} as they must be, {wrong} not");
     std::process::exit((wrong > 0) as i32);

@@ -1,11 +1,12 @@
-//! A mutant is made, built and tried.
+//! A mutant of each kind: what is changed, and what must see it.
 
-use crate::Setting;
+use crate::compared::{compared, run};
 use crate::list::Mutant;
-use std::ffi::OsStr;
+use crate::made::{copy, emptied, linked, program, rlib};
+use crate::{Setting, archive};
 use std::fs;
 use std::path::{Path, PathBuf};
-use std::process::{Command, Output};
+use std::process::Command;
 
 pub struct Seen {
     pub caught: bool,
@@ -13,43 +14,85 @@ pub struct Seen {
     pub how: String,
 }
 
+/// judges, as a comparison names them
+const ORACLE: &str = "the oracle";
+const MODEL: &str = "the model";
+
 /// The model with one thing changed, against the oracle.
 pub fn definitions(s: &Setting, m: &Mutant) -> Seen {
     let work = emptied(s);
     copy(&s.oracle.join("model"), &work);
     m.apply(&work);
-    library(s, "model", &work.join("lib.rs"), &["model"]);
+    rlib(s, "model", &work.join("lib.rs"), &["model"]);
     program(s, &["model"], &[]);
-    compared(s)
+    compared(s, &work.join("compare"), "model", &[ORACLE])
 }
 
-/// The Rust's text with one thing changed, against the library and the model.
+/// The Rust's text with one thing changed, against the library: what the model says of it does not count.
 pub fn text(s: &Setting, m: &Mutant) -> Seen {
     let work = emptied(s);
     copy(&s.target.join("russh"), &work);
     m.apply(&work);
-    library(s, "russh", &work.join("src/lib.rs"), &["russh", "cases"]);
-    library(s, "cases", &s.oracle.join("cases/lib.rs"), &["russh", "cases"]);
-    let linked = format!("link-arg={}", std::env::var("LIBDOOR").expect("LIBDOOR"));
-    program(s, &["russh", "cases"], &["--cfg", "library", "-C", &linked]);
-    compared(s)
+    rlib(s, "russh", &work.join("src/lib.rs"), &["russh", "cases"]);
+    rlib(s, "cases", &s.oracle.join("cases/lib.rs"), &["russh", "cases"]);
+    program(s, &["russh", "cases"], &linked(Path::new(&libdoor())));
+    compared(s, &work.join("compare"), "library", &[ORACLE])
+}
+
+/// The library with one byte changed, at each place where the bytes stand; none of a library that cannot have them. Where
+/// the Rust has no answer, the model is the judge.
+pub fn library(s: &Setting, m: &Mutant) -> Vec<Seen> {
+    let archive = fs::read(libdoor()).expect("the library");
+    let (old, new) = m.byte();
+    if m.file == "x86-64" && !archive::of_x86_64(&archive) {
+        println!("not tried, being of x86-64 alone: {}", m.label);
+        return vec![];
+    }
+    let places = archive::places(&archive, &old);
+    if places.is_empty() {
+        return vec![Seen { caught: false, how: " | stands nowhere in the library".into() }];
+    }
+    let tried = |at: &usize| {
+        let mut changed = archive.clone();
+        changed[*at..*at + new.len()].copy_from_slice(&new);
+        let file = emptied(s).join("libdoor.a");
+        fs::write(&file, changed).expect("the changed library");
+        program(s, &[], &linked(&file));
+        let seen = compared(s, &s.work().join("compare"), "library", &[ORACLE, MODEL]);
+        Seen { how: format!(" | at {at:#x}{}", seen.how), ..seen }
+    };
+    places.iter().map(tried).collect()
 }
 
 /// Our code with one thing changed, unproved, over the recorded answers of the Rust.
 pub fn code(s: &Setting, m: &Mutant) -> Seen {
     let work = repository(s);
     m.apply(&work);
-    replayed(&work)
+    match replayed(&work) {
+        Ok(Some(found)) => Seen { caught: true, how: format!(" | {found}") },
+        Ok(None) => Seen { caught: false, how: String::new() },
+        Err(why) => Seen { caught: false, how: format!(" | {why}") },
+    }
 }
 
-/// The same with nothing changed: else a slip would be seen for another reason.
-pub fn unchanged_code(s: &Setting) {
-    let seen = replayed(&repository(s));
-    assert!(!seen.caught, "the replay fails with nothing changed{}", seen.how);
+/// The same with nothing changed, which must pass: else a slip would be seen for another reason.
+pub fn unchanged(s: &Setting, kind: &str) {
+    if kind == "code" {
+        return assert_eq!(replayed(&repository(s)), Ok(None), "the replay with nothing changed");
+    }
+    let run = run(s, &s.target.join("compare"), if kind == "definitions" { "model" } else { "library" });
+    if !run.status.success() {
+        eprint!("{}{}", String::from_utf8_lossy(&run.stdout), String::from_utf8_lossy(&run.stderr));
+        eprintln!("oracle: the comparison fails with nothing changed");
+        std::process::exit(run.status.code().unwrap_or(1));
+    }
 }
 
-/// A copy of the crates. `rt try` compiles all of them as one, where a module may not be named as a crate is: wire's module
-/// `lists` gets another name in the copy.
+fn libdoor() -> String {
+    std::env::var("LIBDOOR").expect("LIBDOOR")
+}
+
+/// A copy of the crates.
 fn repository(s: &Setting) -> PathBuf {
     let (work, repository) = (emptied(s), s.oracle.join(".."));
     copy(&repository.join("crates"), &work.join("crates"));
@@ -57,96 +100,20 @@ fn repository(s: &Setting) -> PathBuf {
     work
 }
 
-fn emptied(s: &Setting) -> PathBuf {
-    let work = s.work();
-    let _ = fs::remove_dir_all(&work);
-    fs::create_dir_all(&work).expect("a folder for the mutant");
-    work
-}
-
-fn copy(from: &Path, to: &Path) {
-    fs::create_dir_all(to).expect("a folder");
-    for entry in fs::read_dir(from).expect("a folder to copy").flatten() {
-        let (path, target) = (entry.path(), to.join(entry.file_name()));
-        if path.is_dir() {
-            copy(&path, &target);
-        } else {
-            fs::copy(&path, &target).expect("a copy");
-        }
-    }
-}
-
-/// The crates of the oracle's build, those that are `made` anew from the mutant's folder.
-fn rustc(s: &Setting, made: &[&str], args: &[&OsStr]) {
-    let words = std::env::var("RUSTC").expect("RUSTC");
-    let mut words = words.split_whitespace();
-    let mut command = Command::new(words.next().expect("a compiler"));
-    command.args(words).args(["--edition", "2024", "-O", "--cap-lints", "allow", "-L"]).arg(s.work());
-    command.arg("-L").arg(s.target.join("lib"));
-    for entry in fs::read_dir(s.target.join("lib")).expect("the oracle is built").flatten() {
-        let file = entry.file_name().to_string_lossy().into_owned();
-        let name = file.trim_start_matches("lib").split('.').next().unwrap_or_default().to_string();
-        let own = s.work().join(&file);
-        let path = if made.contains(&&name[..]) { own } else { entry.path() };
-        if path.exists() {
-            command.arg("--extern").arg(format!("{name}={}", path.display()));
-        }
-    }
-    assert!(command.args(args).status().expect("rustc runs").success(), "a mutant must build");
-}
-
-fn library(s: &Setting, name: &str, source: &Path, made: &[&str]) {
-    let out = s.work().join(format!("lib{name}.rlib"));
-    let feature = "feature=\"ring\"";
-    let words = ["--crate-type", "rlib", "--crate-name", name, "--cfg", feature, "-o"].map(OsStr::new);
-    rustc(s, made, &[&words[..], &[out.as_os_str(), source.as_os_str()]].concat());
-}
-
-fn program(s: &Setting, made: &[&str], more: &[&str]) {
-    let (out, source) = (s.work().join("compare"), s.oracle.join("src/compare/main.rs"));
-    let words: Vec<&OsStr> = ["--crate-name", "compare"].iter().chain(more).chain(&["-o"]).map(OsStr::new).collect();
-    rustc(s, made, &[&words[..], &[out.as_os_str(), source.as_os_str()]].concat());
-}
-
-/// A mutant that breaks off was not compared.
-fn compared(s: &Setting) -> Seen {
-    let program = s.work().join("compare");
-    let runner = std::env::var("RUNNER").unwrap_or_default();
-    let mut command = if runner.is_empty() { Command::new(&program) } else { Command::new(runner) };
-    if command.get_program() != program.as_os_str() {
-        command.arg(&program);
-    }
-    let run = command.args([&s.n, &s.captures]).arg("first").output().expect("the comparison runs");
-    if !matches!(run.status.code(), Some(0 | 1)) {
-        return Seen { caught: false, how: format!(" | broke off: {}", String::from_utf8_lossy(&run.stderr)) };
-    }
-    let caught = String::from_utf8_lossy(&run.stdout).lines().any(|l| l.starts_with("disagreement"));
-    Seen { caught, how: disagreement(&run) }
-}
-
-/// the function, and what each said
-fn disagreement(run: &Output) -> String {
-    let text = String::from_utf8_lossy(&run.stdout);
-    let mut lines = text.lines().skip_while(|l| *l != "disagreement:").skip(1).map(|l| l.trim());
-    let Some(asked) = lines.next() else { return String::new() };
-    let function = asked.split(' ').next().unwrap_or_default();
-    let said: Vec<String> = lines.take_while(|l| l.starts_with("the ")).map(|l| l.chars().take(60).collect()).collect();
-    format!(" | {function} | {}", said.join("; "))
-}
-
-/// What the program writes is held to its file stdout, compiled as the library is, at -O3. The other ways in which `rt try`
-/// compiles it may take longer than it waits, and say nothing here.
-fn replayed(work: &Path) -> Seen {
+/// The first answer that is not the recorded one; an error, if it was not run to its end. What the program writes is held to
+/// its file stdout, compiled as the library is, at -O3. The other ways in which `rt try` compiles it may take longer than it
+/// waits, and say nothing here.
+fn replayed(work: &Path) -> Result<Option<String>, String> {
     let run = Command::new("rt").args(["try", "replay"]).current_dir(work).output().expect("rt runs");
     let text = [&run.stdout[..], &run.stderr[..]].concat();
     let text = String::from_utf8_lossy(&text);
     let compiled = text.split_once("at -O3 ").map_or("", |(_, after)| after);
     if !compiled.starts_with("ended") {
-        return Seen { caught: false, how: format!(" | not run, or not to its end: {text}") };
+        return Err(format!("not run, or not to its end: {text}"));
+    }
+    if compiled.starts_with("ended and wrote what is expected") {
+        return Ok(None);
     }
     let found = compiled.split_once("found \"").map_or("", |(_, found)| found.split("\\n").next().unwrap_or_default());
-    Seen {
-        caught: !compiled.starts_with("ended and wrote what is expected"),
-        how: format!(" | {}", found.replace("\\\"", "\"").replace("\\\\", "\\").chars().take(90).collect::<String>()),
-    }
+    Ok(Some(found.replace("\\\"", "\"").replace("\\\\", "\\").chars().take(90).collect()))
 }

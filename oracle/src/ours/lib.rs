@@ -1,16 +1,17 @@
 //! Our static library, asked through include/harupesat.h: plain numbers and bytes in and out (src/plain.rs), as the
-//! oracle's door and the model speak them. A slice without elements is lent as a null pointer.
+//! oracle's door and the model speak them. lender.rs says from where slices are lent.
 
+mod bites;
+#[path = "../../../bindings/rust/src/ffi.rs"]
 mod header;
+mod lender;
+mod region;
+
+pub use bites::bites;
 
 use header::*;
+use lender::{reading, writing};
 use plain::{ChannelType, Counters, Opening, Out, Read, Side, Tables, Tcp};
-use std::ptr::{null, null_mut};
-
-const REFUSED: u8 = 0;
-const DONE: u8 = 1;
-const NEED: u8 = 2;
-const UNKNOWN: u8 = 3;
 
 /// In a refusal's place: the struct is none that the header allows (an unused field that is not 0, a flag that is no bool,
 /// a place outside the slice lent, a number that no refusal carries).
@@ -18,14 +19,6 @@ pub const MALFORMED: u8 = 255;
 
 /// where a text stands: start and length
 pub type Place = (usize, usize);
-
-fn at<T>(s: &[T]) -> *const T {
-    if s.is_empty() { null() } else { s.as_ptr() }
-}
-
-fn room(out: &mut [u8]) -> *mut u8 {
-    if out.is_empty() { null_mut() } else { out.as_mut_ptr() }
-}
 
 /// Goes on where the answer is no refusal; a refusal holds its number and nothing else.
 macro_rules! accepted {
@@ -65,7 +58,7 @@ fn written(answer: Written) -> Out<usize> {
 
 /// the packet, and where its payload stands
 pub fn frame_read(s: &[u8], k: Counters) -> Out<(Read, Place)> {
-    let a = accepted!(unsafe { harupesat_frame_read(at(s), s.len(), k.seqn, k.bytes) }, Frame);
+    let a = accepted!(reading(|l| unsafe { harupesat_frame_read(l.lend(s), s.len(), k.seqn, k.bytes) })?, Frame);
     if a.what == NEED {
         let need = a.need;
         exactly(a, Frame { what: NEED, need, ..Frame::default() })?;
@@ -83,75 +76,76 @@ pub fn frame_read(s: &[u8], k: Counters) -> Out<(Read, Place)> {
 }
 
 pub fn frame_write(payload: &[u8], k: Counters, out: &mut [u8]) -> Out<(usize, Counters)> {
-    let answer =
-        unsafe { harupesat_frame_write(at(payload), payload.len(), k.seqn, k.bytes, room(out), out.len()) };
-    let a = accepted!(answer, Sealed);
+    let answer = writing(out, |l, out, len| unsafe {
+        harupesat_frame_write(l.lend(payload), payload.len(), k.seqn, k.bytes, out, len)
+    });
+    let a = accepted!(answer?, Sealed);
     exactly((a.what, a.number), (DONE, 0))?;
     Ok((a.len, Counters { seqn: a.seqn, bytes: a.bytes }))
 }
 
 pub fn write_kex(t: &Tables, cookie: &[u8], out: &mut [u8]) -> Out<usize> {
-    written(unsafe {
+    written(writing(out, |l, out, len| unsafe {
         harupesat_write_kex(
             t.side == Side::Server,
-            at(&t.kex),
+            l.lend(&t.kex),
             t.kex.len(),
-            at(&t.key),
+            l.lend(&t.key),
             t.key.len(),
-            at(&t.certificate),
+            l.lend(&t.certificate),
             t.certificate.len(),
-            at(&t.cipher),
+            l.lend(&t.cipher),
             t.cipher.len(),
-            at(&t.mac),
+            l.lend(&t.mac),
             t.mac.len(),
-            at(&t.compression),
+            l.lend(&t.compression),
             t.compression.len(),
-            at(&t.key_kinds),
+            l.lend(&t.key_kinds),
             t.key_kinds.len(),
-            at(&t.key_ids),
+            l.lend(&t.key_ids),
             t.key_ids.len(),
-            at(&t.cert_kinds),
+            l.lend(&t.cert_kinds),
             t.cert_kinds.len(),
-            at(&t.cert_ids),
+            l.lend(&t.cert_ids),
             t.cert_ids.len(),
-            at(cookie),
+            l.lend(cookie),
             cookie.len(),
-            room(out),
-            out.len(),
+            out,
+            len,
         )
-    })
+    })?)
 }
 
-pub fn read_kex(t: &Tables, rekey: bool, payload: &[u8]) -> Out<plain::Names> {
-    let answer = unsafe {
+pub fn read_kex(t: &Tables, strict_agreed: bool, payload: &[u8]) -> Out<plain::Names> {
+    let answer = reading(|l| unsafe {
         harupesat_read_kex(
             t.side == Side::Server,
-            at(&t.kex),
+            l.lend(&t.kex),
             t.kex.len(),
-            at(&t.key),
+            l.lend(&t.key),
             t.key.len(),
-            at(&t.certificate),
+            l.lend(&t.certificate),
             t.certificate.len(),
-            at(&t.cipher),
+            l.lend(&t.cipher),
             t.cipher.len(),
-            at(&t.mac),
+            l.lend(&t.mac),
             t.mac.len(),
-            at(&t.compression),
+            l.lend(&t.compression),
             t.compression.len(),
-            at(&t.key_kinds),
+            l.lend(&t.key_kinds),
             t.key_kinds.len(),
-            at(&t.key_ids),
+            l.lend(&t.key_ids),
             t.key_ids.len(),
-            at(&t.cert_kinds),
+            l.lend(&t.cert_kinds),
             t.cert_kinds.len(),
-            at(&t.cert_ids),
+            l.lend(&t.cert_ids),
             t.cert_ids.len(),
-            rekey,
-            at(payload),
+            strict_agreed,
+            l.lend(payload),
             payload.len(),
         )
-    };
-    let a = accepted!(answer, Names);
+    });
+    let a = accepted!(answer?, Names);
     exactly((a.what, a.number), (DONE, 0))?;
     Ok(plain::Names {
         kex: a.kex,
@@ -208,7 +202,7 @@ fn used(a: &Open) -> Open {
 
 /// the message, and where its text, its originator and its rest stand
 pub fn open(body: &[u8]) -> Out<(Opening, [Place; 3])> {
-    let a = accepted!(unsafe { harupesat_read_open(at(body), body.len()) }, Open);
+    let a = accepted!(reading(|l| unsafe { harupesat_read_open(l.lend(body), body.len()) })?, Open);
     let places = [
         (a.text_start, a.text_len),
         (a.originator_start, a.originator_len),
@@ -246,7 +240,7 @@ pub fn open(body: &[u8]) -> Out<(Opening, [Place; 3])> {
 }
 
 pub fn confirmation(body: &[u8]) -> Out<plain::Confirmation> {
-    let a = accepted!(unsafe { harupesat_read_confirmation(at(body), body.len()) }, Confirmation);
+    let a = accepted!(reading(|l| unsafe { harupesat_read_confirmation(l.lend(body), body.len()) })?, Confirmation);
     exactly((a.what, a.number), (DONE, 0))?;
     Ok(plain::Confirmation {
         recipient_channel: a.recipient_channel,
@@ -257,27 +251,29 @@ pub fn confirmation(body: &[u8]) -> Out<plain::Confirmation> {
 }
 
 pub fn fail(recipient: u32, reason: u8, text: &[u8], out: &mut [u8]) -> Out<usize> {
-    written(unsafe { harupesat_fail(recipient, reason, at(text), text.len(), room(out), out.len()) })
+    written(writing(out, |l, out, len| unsafe {
+        harupesat_fail(recipient, reason, l.lend(text), text.len(), out, len)
+    })?)
 }
 
 pub fn unknown_type(recipient: u32, out: &mut [u8]) -> Out<usize> {
-    written(unsafe { harupesat_unknown_type(recipient, room(out), out.len()) })
+    written(writing(out, |_, out, len| unsafe { harupesat_unknown_type(recipient, out, len) })?)
 }
 
 /// the part of s at a place; the place handed back is the one asked for
 pub fn show(s: &[u8], (start, len): Place) -> Out<Vec<u8>> {
-    let a = accepted!(unsafe { harupesat_show(at(s), s.len(), start, len) }, Shown);
+    let a = accepted!(reading(|l| unsafe { harupesat_show(l.lend(s), s.len(), start, len) })?, Shown);
     exactly(a, Shown { what: DONE, number: 0, start, len })?;
     part(s, (start, len))
 }
 
 pub fn spelling(kind: u8, number: u8, out: &mut [u8]) -> Out<usize> {
-    written(unsafe { harupesat_spelling(kind, number, room(out), out.len()) })
+    written(writing(out, |_, out, len| unsafe { harupesat_spelling(kind, number, out, len) })?)
 }
 
 /// a name's number, none for a name that the kind does not have
 pub fn lookup(kind: u8, name: &[u8]) -> Out<Option<u8>> {
-    let a = accepted!(unsafe { harupesat_lookup(kind, at(name), name.len()) }, Found);
+    let a = accepted!(reading(|l| unsafe { harupesat_lookup(kind, l.lend(name), name.len()) })?, Found);
     if a.what == UNKNOWN {
         exactly(a, Found { what: UNKNOWN, number: 0, value: 0 })?;
         return Ok(None);
@@ -293,13 +289,13 @@ fn flagged(answer: Flag) -> Out<bool> {
 }
 
 pub fn needs_mac(cipher: u8) -> Out<bool> {
-    flagged(unsafe { harupesat_needs_mac(cipher) })
+    flagged(harupesat_needs_mac(cipher))
 }
 
 pub fn built_in_integrity(cipher: u8) -> Out<bool> {
-    flagged(unsafe { harupesat_built_in_integrity(cipher) })
+    flagged(harupesat_built_in_integrity(cipher))
 }
 
 pub fn default_list(kind: u8, out: &mut [u8]) -> Out<usize> {
-    written(unsafe { harupesat_default_list(kind, room(out), out.len()) })
+    written(writing(out, |_, out, len| unsafe { harupesat_default_list(kind, out, len) })?)
 }
