@@ -1,7 +1,8 @@
 #!/bin/sh
 # Builds the benchmark, counts instructions, takes times, and prints the tables of docs/BENCHMARKS.md.
-# LIBDOOR: the x86-64 library, where it is not the repository's; LTO: as in bench/build.sh. RUSSH_TEXT: the folder of the Rust's
-# text; CAPTURES: real first packets. They default to ../shared/docs/src beside the repository and to crates/peers/data.
+# LIBDOOR: the x86-64 library, where it is not the repository's; LTO: as in bench/build.sh. RUSSH_TEXT: the folder of the
+# Rust's text; CAPTURES: real first packets. They default to ../shared/docs/src beside the repository and to
+# crates/peers/data.
 #
 # Instructions are those of the x86-64 library on every machine, so that counts can be held against each other: by callgrind
 # on an x86-64 machine, by a plugin of the emulator on another. Those of a call are those of a run with 2N calls less those of
@@ -21,7 +22,7 @@ FOR=x86_64 "$bench/build.sh" ${RUSSH_TEXT:+"$RUSSH_TEXT"}
 machine=$(uname -m)
 own=$bench/../target/staticlib/$machine/libdoor.a
 if [ "$machine" != x86_64 ] && [ -f "$own" ]; then
-    LIBDOOR=$own "$bench/build.sh" ${RUSSH_TEXT:+"$RUSSH_TEXT"}
+    FOR=$machine LIBDOOR=$own "$bench/build.sh" ${RUSSH_TEXT:+"$RUSSH_TEXT"}
 fi
 cd "$bench/target/x86_64"
 

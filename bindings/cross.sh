@@ -52,12 +52,12 @@ exec "$clang" "\$@"
 END
 chmod +x "$work/kit/$own/toolchain/bin/clang"
 
-staticlib() { # LOG, and by RATTLE_HOME with which kit
-    rt staticlib door >"$work/$1.log" 2>&1 || { cat "$work/$1.log" >&2; stop "rt staticlib door failed"; }
+staticlib() { # LOG KIT
+    RATTLE_HOME=$2 rt staticlib door >"$work/$1.log" 2>&1 || { cat "$work/$1.log" >&2; stop "rt staticlib door failed"; }
 }
-staticlib plain
+staticlib plain "$kit"
 cp target/staticlib/libdoor.a "$work/plain.a"
-RATTLE_HOME=$work/kit staticlib kept
+staticlib kept "$work/kit"
 cmp "$work/plain.a" target/staticlib/libdoor.a || stop "the archive is not that of a plain 'rt staticlib door'"
 [ -f "$work/module.bc" ] || stop "the kit's compiler handed no bitcode to clang"
 
@@ -86,7 +86,6 @@ compiled "$work/module.ll" "$work/again.o"
 ar=$kit/$own/toolchain/bin/llvm-ar
 "$ar" p target/staticlib/libdoor.a >"$work/archived.o"
 cmp "$work/archived.o" "$work/again.o" || stop "the module's text, compiled again for x86-64, is not the archive's object"
-
 echo "cross: the archive is that of 'rt staticlib door', and its module's text gives the same object"
 
 cross() { # PROCESSOR

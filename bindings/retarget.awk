@@ -43,7 +43,8 @@ shape == "store" && /^ *ret / {
     print "  store " $0 ", ptr %answer, align " loaded[value]
     $0 = "  ret void"
 }
-/ call .*@harupesat_/ { stop("an exported function is called inside the module") }
+# Functions of the module have their path for a name, in quotes; what is called by a plain name is exported, or LLVM's own.
+/ call .*@[A-Za-z_]/ && !/ call .*@llvm\./ { stop("an exported function that is called inside the module") }
 { print }
 
 # The head of an exported function: `shape` says what is to be done at its end.
@@ -57,14 +58,15 @@ function enter() {
     exports++
     parameters = $0
     sub(/^[^(]*/, "", parameters)
-    if (processor == "armv7" && parameters ~ /byval|[(,] ?i[0-9]+ %/) stop("a struct as a parameter")
-    if (processor == "aarch64" && parameters ~ /[(,] ?i[0-9]+ %/ && split(parameters, each, " %") > 9) stop("a struct among more than 8 parameters")
+    small = parameters ~ /[(,] ?i[0-9]+ %/ # a word of a struct: a number's is `noundef`
+    if (processor == "armv7" && (small || parameters ~ / byval\(/)) stop("a struct as a parameter")
+    if (processor == "aarch64" && small && split(parameters, each, " %") > 9) stop("a struct among more than 8 parameters")
     gsub(/ byval\([^)]*\)/, "")
     if (answer == "ptr") {
         shape = "pointer"
         if (processor != "aarch64") return
         shape = "sret"
-        sub(/ptr @/, "void @") && sub(/noundef void/, "void") && sub(/\(ptr noundef %a0/, "(ptr noundef sret(i8) %a0") || stop("no first pointer")
+        sub(/noundef ptr @/, "void @") && sub(/\(ptr noundef %a0/, "(ptr noundef sret(i8) %a0") || stop("no first pointer")
     } else if (answer ~ /^\{ i64, i(8|16|24|32|40|48|56|64) \}$/) {
         shape = "as it comes"
         if (processor != "armv7") return

@@ -1,5 +1,5 @@
 #!/bin/sh
-# Tests the header, the C example and the Rust wrapper against the static library.
+# Tests the header, the C example and the Rust wrapper against the static library, and what retargets it.
 #   bindings/test.sh [c|rust]      both, where none is named
 # FOR=aarch64 (x86_64, riscv64, armv7) for another processor than the machine's own, by a cross compiler and an emulator: see
 # tools.sh, also on LIBDOOR.
@@ -63,6 +63,7 @@ c() {
     symbols
     known_answers
     example c
+    "$root/bindings/retarget_test.sh"
 }
 
 rust() {

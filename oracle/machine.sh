@@ -1,6 +1,6 @@
-# What builds and what runs: sourced by the commands of this folder and by the benchmark's. Everything is built for one processor,
-# the machine's own where FOR names no other (bindings/tools.sh, which also has LIBDOOR and need_library); what is built
-# for another is run by an emulator.
+# What builds and what runs: sourced by the commands of this folder and by the benchmark's. Everything is built for one
+# processor, the machine's own where FOR names no other (bindings/tools.sh, which also has LIBDOOR and need_library); what is
+# built for another is run by an emulator.
 #
 #   rustc       the compiler, with its target and linker
 #   host_rustc  the same compiler for what runs while compiling (a proc-macro)

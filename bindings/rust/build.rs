@@ -22,14 +22,15 @@ fn main() {
     println!("cargo::rustc-link-lib=static={name}");
 }
 
-/// Where the processor's library stands, and what makes it.
+/// Where the processor's library stands, and what makes it. An older ARM would link armv7's, and stop at its instructions.
 fn made() -> (&'static str, &'static str) {
+    let armv7 = env::var("TARGET").is_ok_and(|target| target.starts_with("armv7"));
     match env::var("CARGO_CFG_TARGET_ARCH").as_deref() {
         Ok("x86_64") => ("../../target/staticlib/libdoor.a", "rt staticlib door"),
         Ok("aarch64") => ("../../target/staticlib/aarch64/libdoor.a", "bindings/cross.sh aarch64"),
         Ok("riscv64") => ("../../target/staticlib/riscv64/libdoor.a", "bindings/cross.sh riscv64"),
-        Ok("arm") => ("../../target/staticlib/armv7/libdoor.a", "bindings/cross.sh armv7"),
-        _ => stop("there is a library for x86_64, aarch64, riscv64 and arm (armv7), and for no other processor"),
+        Ok("arm") if armv7 => ("../../target/staticlib/armv7/libdoor.a", "bindings/cross.sh armv7"),
+        _ => stop("there is a library for x86_64, aarch64, riscv64 and armv7, and for no other processor"),
     }
 }
 
