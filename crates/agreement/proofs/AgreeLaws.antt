@@ -4,6 +4,7 @@ use mathlib.Core.Bool.{Bool, true, _&&_, _||_, and-comm}
 use mathlib.Core.List.{List}
 use Prim.Native.Nat.{ℕ}
 use lib.ListN.{length}
+use Rattle.answer.specs.Answer.{placed}
 use Rattle.names.specs.Tables.{allNames, kexNames}
 use Rattle.names.specs.declared.Kind.the-variants.{Kex}
 use Rattle.choice.specs.declared.Side.{Side}
@@ -59,9 +60,9 @@ module _ (tc ts : Tables) (b : Bool) (c : tc .side ≡ Client) (s : ts .side ≡
       ap (λ (x : Side). strictAt x ts (kexList tc)) s
       ∙ rw (strict-names .0, ← (strict-server ts gs s)) (ap (λ x. x || b) (and-comm (listed serverStrict (kexList ts)) (listed clientStrict (kexList tc))))
 
-  -- each reads the other's, and both come to the one block over what they share
+  -- each reads the other's, and both come to the one block over what they share: equal values, or refusals of equal number
   pub agree : (clientCookie serverCookie : List ℕ) → length clientCookie ≡ 16 → length serverCookie ≡ 16
-      → (readKex tc b (kexInit ts serverCookie) ≡ both tc ts b) × (readKex ts b (kexInit tc clientCookie) ≡ both tc ts b)
+      → (placed 0 (readKex tc b (kexInit ts serverCookie)) ≡ both tc ts b) × (placed 0 (readKex ts b (kexInit tc clientCookie)) ≡ both tc ts b)
   unfolding both
   agree clientCookie serverCookie k l = (
     reads tc ts b serverCookie cv sv l ∙ ap₂ settling client-choice client-strict,

@@ -16,7 +16,7 @@ use Rattle.choice.specs.Choice.{listed, First, NoneShared}
 use Rattle.judging.specs.Tables.{Tables}
 use Rattle.negotiation.specs.declared.Names.{Names}
 use Rattle.negotiation.specs.Written.{keyList, cipherList, macList, compressionList}
-use Rattle.negotiation.specs.Read.{needsMac, noMac, settleMac, Choices}
+use Rattle.negotiation.specs.Read.{needsMac, noMac, settle, settleMac, Choices}
 use Rattle.agreement.specs.Protected.{protecting}
 use Rattle.agreement.specs.Both.{settling, kexOffer, shared, bothStrict, both}
 use Rattle.agreement.specs.Ended.{MacOf, Accepted, Lacks, FirstLacking}
@@ -42,8 +42,8 @@ module _ (tc ts : Tables) where
 
   -- the MAC rule, beside a chosen cipher
   data MacSettled (cipher : List ℕ) (o : Option (List ℕ)) : Type 0 where
-    settles : (mac : List ℕ) → settleMac cipher o ≡ done mac → MacOf (macList tc) (macList ts) cipher mac → MacSettled cipher o
-    lacking : settleMac cipher o ≡ refuse 13 → needsMac cipher ≡ true → NoneShared (macList tc) (macList ts) → MacSettled cipher o
+    settles : (mac : List ℕ) → settleMac cipher 0 o ≡ done mac → MacOf (macList tc) (macList ts) cipher mac → MacSettled cipher o
+    lacking : settleMac cipher 0 o ≡ refuse 13 → needsMac cipher ≡ true → NoneShared (macList tc) (macList ts) → MacSettled cipher o
 
   settle-mac : (protecting tc || protecting ts) ≡ true → (cipher : List ℕ) {o : Option (List ℕ)}
       → Judged (macList tc) (macList ts) o → MacSettled cipher o
@@ -90,7 +90,7 @@ module _ (tc ts : Tables) (b : Bool) (v : Valid tc) {kex key cipher : List ℕ} 
       → Judged (compressionList tc) (compressionList ts) compression
       → Came tc ts b
       (settling (record { kex = some kex; key = some key; cipher = some cipher; mac = mac; compression = compression }) (bothStrict tc ts b))
-  unfolding settling _>>=_
+  unfolding settling settle _>>=_
   macs-come (lacking e n u) z =
       rw e
       (came-refused
@@ -157,7 +157,7 @@ module _ (tc ts : Tables) (b : Bool) (v : Valid tc) (p : (protecting tc || prote
       → Judged (compressionList tc) (compressionList ts) compression
       → Came tc ts b
       (settling (record { kex = kex; key = key; cipher = cipher; mac = mac; compression = compression }) (bothStrict tc ts b))
-  unfolding settling _>>=_
+  unfolding settling settle _>>=_
   come (nothing u) k c m z =
       came-refused
       (record {

@@ -1,3 +1,4 @@
+pub mod PlacedLaws
 pub mod SharedLaws
 pub mod NameLaws
 pub mod ProtectedLaws

@@ -5,7 +5,7 @@ use mathlib.Core.Bool.{Bool, true, false, not, _&&_, _||_}
 use mathlib.Core.List.{List, [], _∷_, map, flatten}
 use Prim.Native.Nat.{ℕ}
 use lib.ListN.{replicate}
-use Rattle.answer.specs.Answer.{Out, done, refuse, _>>=_}
+use Rattle.answer.specs.Answer.{Out, done, refuse, placed, _>>=_}
 use Rattle.answer.proofs.Laws.{and-left, and-right}
 use Rattle.put.specs.Written.{word as encoded}
 use Rattle.text.specs.Same.{same, ascii}
@@ -26,7 +26,7 @@ use Rattle.preferred.specs.Own.{kexWritten, kexChosen, keysOf}
 use Rattle.negotiation.specs.declared.Names.{Names}
 use Rattle.negotiation.specs.KexInit.{textField, encoded as encodedFields, offer}
 use Rattle.negotiation.specs.Written.{kexInit}
-use Rattle.negotiation.specs.Read.{number, needsMac, settleMac, strict, isCertificate, keyNumber, settled, readKex}
+use Rattle.negotiation.specs.Read.{number, needsMac, settle, settleMac, strict, isCertificate, keyNumber, settled, readKex}
 use Rattle.agreement.specs.Protected.{protecting}
 use Rattle.agreement.specs.Demand.{Ends}
 
@@ -55,11 +55,12 @@ namesAre kex key cipher mac certificate isStrict =
       flags = record { «host_key_is_certificate» = certificate; «ignore_guessed» = false; «strict_kex» = isStrict };
     }
 
--- a pair, and what both ends read in what the other writes
+-- a pair, what both ends read in what the other writes, and at which offsets the client and the server refuse
 pub record Pair : Type 0 where
   pub client : Tables
   pub server : Tables
   pub answer : Out Names
+  pub at : ℕ × ℕ
 
 abbrev pub pairs : List Pair
 pairs =
@@ -68,45 +69,53 @@ pairs =
       client = defaults Client [] [] [] [];
       server = defaults Server (0 ∷ []) (1 ∷ []) [] [];
       answer = done (namesAre 0 0 10 1 false true);
+      at = (0, 0);
     }
     -- the client's order decides, a certificate is chosen, and both are strict
     ∷ record {
       client = clientOf (2 ∷ 1 ∷ 11 ∷ []) (4 ∷ 0 ∷ []) (2 ∷ 10 ∷ []) (4 ∷ 3 ∷ []) (0 ∷ []);
       server = serverOf (1 ∷ 2 ∷ 12 ∷ []) (0 ∷ 4 ∷ []) (10 ∷ 2 ∷ []) (3 ∷ 4 ∷ 0 ∷ []) (0 ∷ []);
       answer = done (namesAre 2 0 2 4 true true);
+      at = (0, 0);
     }
     -- no MAC is shared, and chacha20 needs none; only the server would be strict
     ∷ record {
       client = clientOf (1 ∷ []) (5 ∷ []) (10 ∷ []) (4 ∷ []) (0 ∷ []);
       server = serverOf (1 ∷ 12 ∷ []) (4 ∷ 5 ∷ []) (10 ∷ []) (3 ∷ []) (0 ∷ []);
       answer = done (namesAre 1 5 10 0 false false);
+      at = (0, 0);
     }
     -- both prefer both ext-info names, and share no kex
     ∷ record {
       client = clientOf (1 ∷ 9 ∷ 10 ∷ []) (0 ∷ []) (2 ∷ []) (4 ∷ []) (0 ∷ []);
       server = serverOf (2 ∷ 9 ∷ 10 ∷ []) (0 ∷ []) (2 ∷ []) (4 ∷ []) (0 ∷ []);
       answer = refuse 10;
+      at = (17, 17);
     }
     ∷ record {
       client = clientOf (1 ∷ []) (0 ∷ []) (2 ∷ []) (4 ∷ []) (0 ∷ []);
-      server = serverOf (1 ∷ []) (4 ∷ []) (2 ∷ []) (4 ∷ []) (0 ∷ []);
+      server = serverOf (1 ∷ 12 ∷ []) (4 ∷ []) (2 ∷ []) (4 ∷ []) (0 ∷ []);
       answer = refuse 11;
+      at = (67, 38);
     }
     ∷ record {
       client = clientOf (1 ∷ []) (0 ∷ []) (2 ∷ []) (4 ∷ []) (0 ∷ []);
-      server = serverOf (1 ∷ []) (0 ∷ []) (10 ∷ []) (4 ∷ []) (0 ∷ []);
+      server = serverOf (1 ∷ 12 ∷ []) (0 ∷ []) (10 ∷ []) (4 ∷ []) (0 ∷ []);
       answer = refuse 12;
+      at = (115, 86);
     }
     -- aes128-ctr needs a MAC
     ∷ record {
       client = clientOf (1 ∷ []) (0 ∷ []) (2 ∷ []) (4 ∷ []) (0 ∷ []);
-      server = serverOf (1 ∷ []) (0 ∷ []) (2 ∷ []) (3 ∷ []) (0 ∷ []);
+      server = serverOf (1 ∷ 12 ∷ []) (0 ∷ []) (2 ∷ []) (3 ∷ []) (0 ∷ []);
       answer = refuse 13;
+      at = (143, 114);
     }
     ∷ record {
       client = clientOf (1 ∷ []) (0 ∷ []) (2 ∷ []) (4 ∷ []) (0 ∷ []);
-      server = serverOf (1 ∷ []) (0 ∷ []) (2 ∷ []) (4 ∷ []) [];
+      server = serverOf (1 ∷ 12 ∷ []) (0 ∷ []) (2 ∷ []) (4 ∷ []) [];
       answer = refuse 14;
+      at = (177, 148);
     }
     ∷ []
 
@@ -145,7 +154,7 @@ meets-ends p h =
 
 -- opens every definition on the way from tables to bytes to names
 opened : Unit {0}
-unfolding readKex settled first chosen all below eachKeyRow goodLists goodTables without ofKind held keysOf kexInit encodedFields flatten textField offer encoded word run string byte end cut join standing judged judgedList nameList utf8 octets next utf8Rows same ascii valid goodList goodRowTable agrees consistent mayLend namesOf kexNames keyNames certificateNames cipherNames macNames compressionNames listed firstShared bothFirst rowSpelled allNames member kept kexWritten kexChosen added certificates number numberOf placeFrom needsMac settleMac needMac strict isCertificate keyNumber _>>=_
+unfolding readKex settled first chosen all below eachKeyRow goodLists goodTables without ofKind held keysOf kexInit encodedFields flatten textField offer encoded word run string byte end cut join standing judged judgedList nameList utf8 octets next utf8Rows same ascii valid goodList goodRowTable agrees consistent mayLend namesOf kexNames keyNames certificateNames cipherNames macNames compressionNames listed firstShared bothFirst rowSpelled allNames member kept kexWritten kexChosen added certificates number numberOf placeFrom needsMac settle settleMac needMac strict isCertificate keyNumber _>>=_
 opened = tt
 
 -- the pairs are such as demand 3 speaks of
@@ -153,12 +162,12 @@ pub pairs-meet : every meets pairs ≡ true
 unfolding opened protecting
 pairs-meet = refl
 
--- and these are their answers, through every byte that is written and read
-pub clients-read : map (λ (p : Pair). readKex (p .client) false (kexInit (p .server) cookie)) pairs ≡ map (λ (p : Pair). p .answer) pairs
+-- and these are their answers, through every byte that is written and read: one number, each where the peer's list stands
+pub clients-read : map (λ (p : Pair). readKex (p .client) false (kexInit (p .server) cookie)) pairs ≡ map (λ (p : Pair). placed (p .at .0) (p .answer)) pairs
 unfolding opened
 clients-read = refl
 
-pub servers-read : map (λ (p : Pair). readKex (p .server) false (kexInit (p .client) cookie)) pairs ≡ map (λ (p : Pair). p .answer) pairs
+pub servers-read : map (λ (p : Pair). readKex (p .server) false (kexInit (p .client) cookie)) pairs ≡ map (λ (p : Pair). placed (p .at .1) (p .answer)) pairs
 unfolding opened
 servers-read = refl
 
@@ -170,14 +179,16 @@ unprotected =
       client = clientOf (1 ∷ []) (0 ∷ []) (2 ∷ []) (0 ∷ 4 ∷ []) (0 ∷ []);
       server = serverOf (1 ∷ []) (0 ∷ []) (2 ∷ []) (4 ∷ 0 ∷ []) (0 ∷ []);
       answer = refuse 13;
+      at = (114, 114);
     }
     ∷ record {
       client = clientOf (1 ∷ []) (0 ∷ []) (1 ∷ []) (0 ∷ 4 ∷ []) (0 ∷ []);
       server = serverOf (1 ∷ []) (0 ∷ []) (1 ∷ []) (4 ∷ 0 ∷ []) (0 ∷ []);
       answer = done (namesAre 1 0 1 0 true false);
+      at = (0, 0);
     }
     ∷ []
 
-pub unprotected-read : map (λ (p : Pair). readKex (p .client) false (kexInit (p .server) cookie)) unprotected ≡ map (λ (p : Pair). p .answer) unprotected
+pub unprotected-read : map (λ (p : Pair). readKex (p .client) false (kexInit (p .server) cookie)) unprotected ≡ map (λ (p : Pair). placed (p .at .0) (p .answer)) unprotected
 unfolding opened
 unprotected-read = refl

@@ -37,11 +37,11 @@ unfolding namesOf cipherNames same needsMac hasIntegrity number numberOf placeFr
 ciphers-sound = refl
 
 -- a MAC that a cipher needs is a shared one, and not `none`
-mac-needed : (cipher mac : List ℕ) (o : Option (List ℕ)) → settleMac cipher o ≡ done mac → needsMac cipher ≡ true
+mac-needed : (cipher mac : List ℕ) (i : ℕ) (o : Option (List ℕ)) → settleMac cipher i o ≡ done mac → needsMac cipher ≡ true
     → (o ≡ some mac) × (same mac noMac ≡ false)
 unfolding settleMac
-mac-needed cipher mac none h m = never (cc)
-mac-needed cipher mac (some x) h m =
+mac-needed cipher mac i none h m = never (cc)
+mac-needed cipher mac i (some x) h m =
     split (same x noMac) (λ e. never (cc))
     (λ e. let d : done x ≡ done mac = rw (m, e) at h in let q : x ≡ mac = un-done d in (ap some q, rw q at e))
 
@@ -76,10 +76,10 @@ module _ (t : Tables) (safe : protecting t ≡ true) where
         ) at s
 
     -- one direction
-    guarded : (mac : List ℕ) (peer : List (List ℕ)) → settleMac cipher (chosen (t .side) (macList t) peer) ≡ done mac
+    guarded : (mac : List ℕ) (i : ℕ) (peer : List (List ℕ)) → settleMac cipher i (chosen (t .side) (macList t) peer) ≡ done mac
         → hasIntegrity cipher ≡ false → number Mac mac ≡ 0 → ⊥
-    guarded mac peer s i z =
-        let n = mac-needed cipher mac (chosen (t .side) (macList t) peer) s (needs i) in
+    guarded mac at peer s i z =
+        let n = mac-needed cipher mac at (chosen (t .side) (macList t) peer) s (needs i) in
         let m = known Mac (t .mac) mac (v .mac) (chosen-own (t .side) (macList t) peer mac (n .0)) in
         let e : getD (namesOf Mac) 0 [] ≡ mac = rw (sym (known-number Mac mac m) ∙ z) at (m .spelt) in
         same-differ mac noMac (n .1) (sym e ∙ first-mac)
@@ -110,11 +110,11 @@ module _ (t : Tables) (safe : protecting t ≡ true) where
       go-on _ _ (λ _ _.
       go-on _ _ (λ _ _.
       go-on _ _ (λ _ _.
-      at-end (let own = chosen-own (t .side) (cipherList t) (ciphers .0) cipher (settle-some 12 _ cipher chose) in
-      let good = valid-parts t (passed 9 (valid t) u v) in
+      at-end (let own = chosen-own (t .side) (cipherList t) (ciphers .0) cipher (settle-some 12 _ _ cipher chose) in
+      let good = valid-parts t (passed 9 0 (valid t) u v) in
       record {
-        clientToServer = λ u. guarded good cipher own clientMac (macs .0) chose-c (u .integrity) (u .none);
-        serverToClient = λ u. guarded good cipher own serverMac (macs′ .0) chose-s (u .integrity) (u .none);
+        clientToServer = λ u. guarded good cipher own clientMac _ (macs .0) chose-c (u .integrity) (u .none);
+        serverToClient = λ u. guarded good cipher own serverMac _ (macs′ .0) chose-s (u .integrity) (u .none);
       }))))))))))))))))))))))))
 
 pub never-unprotected : (t : Tables) → protecting t ≡ true → (b : Bool) (p : List ℕ) (n : Names) → readKex t b p ≡ done n → Protected n

@@ -19,16 +19,16 @@ pub record Shared : Type 0 where
   pub mac : Option (List ℕ)
   pub compression : Option (List ℕ)
 
--- what an end makes of them; no guess follows, so none is ignored
+-- what an end makes of them, offsets apart: the ends read different payloads; no guess follows, so none is ignored
 unfoldable pub settling : Shared → Bool → Out Names
 settling s isStrict = do
-  kex ← settle 10 (s .kex)
-  key ← settle 11 (s .key)
-  cipher ← settle 12 (s .cipher)
-  clientMac ← settleMac cipher (s .mac)
-  serverMac ← settleMac cipher (s .mac)
-  clientCompression ← settle 14 (s .compression)
-  serverCompression ← settle 14 (s .compression)
+  kex ← settle 10 0 (s .kex)
+  key ← settle 11 0 (s .key)
+  cipher ← settle 12 0 (s .cipher)
+  clientMac ← settleMac cipher 0 (s .mac)
+  serverMac ← settleMac cipher 0 (s .mac)
+  clientCompression ← settle 14 0 (s .compression)
+  serverCompression ← settle 14 0 (s .compression)
   done
       (settled
       (record {

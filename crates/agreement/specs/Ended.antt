@@ -5,7 +5,7 @@ use mathlib.Core.List.{List}
 use mathlib.Core.Option.{some}
 use Prim.Native.Nat.{ℕ, _<_}
 use Rattle.answer.specs.declared.Refusal.{Refusal}
-use Rattle.answer.specs.Answer.{Out, refused, done, pick}
+use Rattle.answer.specs.Answer.{Out, refused, done, refuseAt, pick}
 use Rattle.names.specs.Lookup.{numberOf}
 use Rattle.names.specs.declared.Kind.the-variants.{Kex, Key, Certificate, Cipher, Mac, Compression}
 use Rattle.choice.specs.Choice.{First, NoneShared}
@@ -58,11 +58,12 @@ pub record FirstLacking (client server : Tables) (n : ℕ) : Type 0 where
   pub lacks : Lacks client server n
   pub earlier : (m : ℕ) → m < n → Lacks client server m → ⊥
 
--- "both accept with equal names and flags [..]; or both refuse with the same number"
+-- "both accept with equal names and flags [..]; or both refuse with the same number", each where the list stands in what it
+-- read (document 02, No. 6)
 pub data Ended (client server : Tables) (strictAgreed : Bool) (clientReads serverReads : Out Names) : Type 0 where
   bothAccept : (n : Names) → clientReads ≡ done n → serverReads ≡ done n → Accepted client server strictAgreed n
       → Ended client server strictAgreed clientReads serverReads
-  bothRefuse : (r : Refusal) → clientReads ≡ refused r → serverReads ≡ refused r → FirstLacking client server (r .number)
+  bothRefuse : (n i j : ℕ) → clientReads ≡ refuseAt n i → serverReads ≡ refuseAt n j → FirstLacking client server n
       → Ended client server strictAgreed clientReads serverReads
 
 abbrev pub Refuses : Out Names → Type 0

@@ -6,6 +6,13 @@ use native.Mathlib.Omega.{arith}
 use Rattle.answer.specs.declared.Refusal.{Refusal}
 use Rattle.answer.specs.Answer.{Out, refused, done, guard, refuse, pick, _>>=_}
 
+-- the refusal that carries n, for what stands at i; at 0
+abbrev pub NoAt : ℕ → ℕ → Refusal → Type 0
+NoAt n i r = _≡_ {A = Refusal} r (record { number = n; offset = i })
+
+abbrev pub No : ℕ → Refusal → Type 0
+No n r = NoAt n 0 r
+
 -- equations that clash prove 0 ≡ 1 by `cc`, and so anything
 pub never : {G : Type 0} → _≡_ {A = ℕ} 0 1 → G
 never e = absurd (omega arith)

@@ -4,7 +4,7 @@ use mathlib.Core.Path.{_≡_, refl, sym}
 use mathlib.Core.Bool.{Bool, true, false}
 use Prim.Native.Nat.{ℕ}
 use Rattle.answer.specs.declared.Refusal.{Refusal}
-use Rattle.answer.specs.Answer.{Out, refused, done, guard, _>>=_}
+use Rattle.answer.specs.Answer.{Out, refused, done, guardAt, _>>=_}
 use Rattle.answer.proofs.Laws.{un-done, not-both}
 
 -- a step whose value is known
@@ -34,6 +34,6 @@ of-accepted a nothing e = absurd (not-both (sym e))
 of-accepted a (at-end h) e = rw (un-done e) at h
 
 -- a test that let the block go on holds
-pub passed : (n : ℕ) (b : Bool) (u : Unit {0}) → guard n b ≡ done u → b ≡ true
-passed n true u e = refl
-passed n false u e = absurd (not-both (sym e))
+pub passed : (n i : ℕ) (b : Bool) (u : Unit {0}) → guardAt n i b ≡ done u → b ≡ true
+passed n i true u e = refl
+passed n i false u e = absurd (not-both (sym e))

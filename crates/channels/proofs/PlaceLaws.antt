@@ -35,7 +35,7 @@ module _ (b : List ℕ) where
   unfolding offer
   offer-on c o =
       number b c _ o (λ x o₁ i. number b (x .1) _ o₁ (λ y o₂ j. number b (y .1) _ o₂ (λ z o₃ k.
-      go-on (guard 6 (not (eqb (z .0) 0))) _ (λ u g. at-end (o₃, omega arith)))))
+      go-on _ _ (λ u g. at-end (o₃, omega arith)))))
 
   open-placed : Post (Message b) (readOpen b)
   unfolding readOpen

@@ -9,18 +9,19 @@ use Rattle.framing.specs.declared.Packet.{Packet}
 use Rattle.frames.specs.declared.Frame.{Frame}
 use Rattle.frames.specs.declared.Sealed.{Sealed}
 
--- no packet, but what it is, the number of a refusal, or how many bytes are needed
-abbrev pub noPacket : ℕ → ℕ → ℕ → Frame
-noPacket what number more =
-    record { what = what; number = number; need = more; start = 0; len = 0; end = 0; taken = 0; seqn = 0; bytes = 0 }
+-- no packet, but what it is, a refusal's number and offset, or how many bytes are needed
+abbrev pub noPacket : ℕ → ℕ → ℕ → ℕ → Frame
+noPacket what number offset more =
+    record { what = what; number = number; offset = offset; need = more; start = 0; len = 0; end = 0; taken = 0; seqn = 0; bytes = 0 }
 
 unfoldable pub frameOf : Out Read → Frame
-frameOf (refused r) = noPacket 0 (r .number) 0
-frameOf (done (need n)) = noPacket 2 0 n
+frameOf (refused r) = noPacket 0 (r .number) (r .offset) 0
+frameOf (done (need n)) = noPacket 2 0 0 n
 frameOf (done (packet p)) =
     record {
       what = 1;
       number = 0;
+      offset = 0;
       need = 0;
       start = p .payload .start;
       len = p .payload .len;

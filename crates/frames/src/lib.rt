@@ -11,6 +11,7 @@ use shapes::REFUSED;
 pub struct Frame {
     pub what: u8,
     pub number: u8,
+    pub offset: usize,
     pub need: usize,
     pub start: usize,
     pub len: usize,
@@ -29,12 +30,13 @@ pub struct Sealed {
     pub bytes: u64,
 }
 
-fn no_packet(what: u8, number: u8, need: usize) -> Frame
-    ensures { λ r. ⌜ r ≡ noPacket what number need ⌝ }
+fn no_packet(what: u8, number: u8, offset: usize, need: usize) -> Frame
+    ensures { λ r. ⌜ r ≡ noPacket what number offset need ⌝ }
 {
     Frame {
         what,
         number,
+        offset,
         need,
         start: 0,
         len: 0,
@@ -49,10 +51,11 @@ pub fn frame_of(g: GotPacket) -> Frame
     ensures { λ r. ⌜ r ≡ frameOf (gotPacket g) ⌝ }
 {
     match g {
-        GotPacket::Need(n) => no_packet(NEED, 0, n),
+        GotPacket::Need(n) => no_packet(NEED, 0, 0, n),
         GotPacket::Whole(p) => Frame {
             what: DONE,
             number: 0,
+            offset: 0,
             need: 0,
             start: p.payload.start,
             len: p.payload.len,
@@ -61,7 +64,7 @@ pub fn frame_of(g: GotPacket) -> Frame
             seqn: p.counters.seqn,
             bytes: p.counters.bytes,
         },
-        GotPacket::Refused(r) => no_packet(REFUSED, r.number, 0),
+        GotPacket::Refused(r) => no_packet(REFUSED, r.number, r.offset, 0),
     }
 }
 
@@ -76,9 +79,9 @@ pub fn sealed_of(s: framing::Sealed) -> Sealed
             seqn: k.seqn,
             bytes: k.bytes,
         },
-        framing::Sealed::Refused(r) => Sealed {
+        framing::Sealed::Refused(number) => Sealed {
             what: REFUSED,
-            number: r.number,
+            number,
             len: 0,
             seqn: 0,
             bytes: 0,

@@ -9,8 +9,8 @@ use lib.ListN.{getD, set, replicate, length-replicate, replicate-append-replicat
 use lib.Seq.{sets}
 use Rattle.answer.specs.declared.Refusal.{Refusal}
 use Rattle.answer.specs.Answer.{refused, done}
+use Rattle.answer.proofs.Laws.{No, NoAt}
 use Rattle.put.proofs.PutLaws.{sets-append}
-use Rattle.wire.proofs.FieldLaws.{No}
 use Rattle.framing.specs.declared.Counters.{Counters}
 use Rattle.framing.specs.Clear.{mostLength, mostCount, judgedLength, judgedPadding, counted, paddingLength, paddingOf}
 
@@ -23,7 +23,7 @@ module _ (len : ℕ) where
   unfolding judgedLength
   length-fine h = rw (le-leb len mostLength h)
 
-  pub padding-over : (padding : ℕ) (r : Refusal) → len < padding → No 7 r → refused r ≡ judgedPadding len padding
+  pub padding-over : (padding : ℕ) (r : Refusal) → len < padding → NoAt 7 4 r → refused r ≡ judgedPadding len padding
   unfolding judgedPadding
   padding-over padding r h e = rw (lt-leb padding len h, e)
 

@@ -6,7 +6,7 @@ use native.Mathlib.Omega.{arith}
 use borrow.Author.Tests.{ltb-true, ltb-false, leb-true, leb-false}
 use lib.Dec.{leb, ltb}
 use lib.ListN.{length}
-use Rattle.answer.specs.Answer.{Out, done, refuse, _>>=_}
+use Rattle.answer.specs.Answer.{Out, done, refuse, refuseAt, _>>=_}
 use Rattle.answer.proofs.Laws.{split, not-both}
 use Rattle.wire.specs.Shown.{shown, part}
 use Rattle.wire.proofs.ShowLaws.{inside}
@@ -21,7 +21,7 @@ use Rattle.framing.specs.Answers.{gotPacket}
 pub each-answer : (P : Out Read → Type 0) (s : List ℕ) (k : Counters) → (length s < 4 → P (done (need 4)))
     → (4 ≤ length s → mostLength < announced s → P (refuse 4))
     → (announced s ≤ mostLength → length s < announced s + 4 → P (done (need (announced s + 4))))
-    → (announced s ≤ mostLength → announced s + 4 ≤ length s → announced s < paddingOf s (announced s) → P (refuse 7))
+    → (announced s ≤ mostLength → announced s + 4 ≤ length s → announced s < paddingOf s (announced s) → P (refuseAt 7 4))
     → (announced s ≤ mostLength → announced s + 4 ≤ length s → paddingOf s (announced s) ≤ announced s
     → P (done (packet (packetAt (announced s) (paddingOf s (announced s)) k))))
     → P (readPacket s k)

@@ -9,14 +9,14 @@ use lib.Dec.{leb}
 use lib.ListN.{length, take, drop, replicate, length-append, length-take, length-drop, length-replicate, replicate-append-replicate}
 use lib.Seq.{sets, length-sets}
 use Rattle.answer.specs.declared.Refusal.{Refusal}
-use Rattle.answer.specs.Answer.{refused, done, _>>=_}
+use Rattle.answer.specs.Answer.{done, refuse, _>>=_}
 use Rattle.answer.proofs.Laws.{split, not-both}
 use Rattle.put.specs.Written.{written, buffer, word}
 use Rattle.put.proofs.PutLaws.{sets-append, buffer-fits, buffer-full, buffer-length, written-fits, written-full, word-length}
 use Rattle.wire.specs.declared.answers.Checked.{Checked}
 use Rattle.wire.specs.declared.answers.Checked.the-variants.{Fine, Refused as NotFine}
-use Rattle.wire.specs.Answers.{checked, whyNotFine}
-use Rattle.wire.proofs.FieldLaws.{No, rest-part}
+use Rattle.wire.specs.Answers.{checked}
+use Rattle.wire.proofs.FieldLaws.{rest-part}
 use Rattle.framing.specs.declared.Counters.{Counters}
 use Rattle.framing.specs.Clear.{mostLength, paddingLength, packetLength, judgedLength, frame, packetOf, counted}
 use Rattle.framing.specs.Answers.{sealing}
@@ -98,9 +98,12 @@ length-fits len j judged e =
 module _ (out payload : List ℕ) (padding : ℕ) (padded : padding ≡ paddingLength (length payload)) (j : Checked)
     (judged : checked j ≡ judgedLength (1 + length payload + padding))
   where
-    refusedOf : (x : Refusal) → j ≡ NotFine x → packetOf payload ≡ refused x
-    unfolding packetOf _>>=_
-    refusedOf x e = rw (← padded, ← judged, e)
+    refusedOf : (x : Refusal) → j ≡ NotFine x → packetOf payload ≡ refuse 4
+    unfolding packetOf judgedLength _>>=_
+    refusedOf x e =
+        split (leb (1 + length payload + padding) mostLength)
+        (λ t. absurd (not-both (sym (rw (e, t) at judged))))
+        (λ t. rw (← padded, t))
 
     frameOf : j ≡ Fine → packetOf payload ≡ done (frame payload)
     unfolding packetOf _>>=_
@@ -121,13 +124,13 @@ module _ (out payload : List ℕ) (padding : ℕ) (padded : padding ≡ paddingL
     bytes-are out′ e h f = rw (frameOf e, buffer-fits out 0 (frame payload) (rw size h), f)
 
     module _ (k : Counters) where
-      pub write-stop : (x q : Refusal) → j ≡ NotFine x → q ≡ whyNotFine j → refused q ≡ sealing out payload k
+      pub write-stop : (x : Refusal) → j ≡ NotFine x → refuse 4 ≡ sealing out payload k
       unfolding sealing written _>>=_
-      write-stop x q e f = rw (refusedOf x e, f, e)
+      write-stop x e = rw (refusedOf x e)
 
-      pub write-full : (r : Refusal) → j ≡ Fine → length out < 1 + length payload + padding + 4 → No 8 r → refused r ≡ sealing out payload k
+      pub write-full : j ≡ Fine → length out < 1 + length payload + padding + 4 → refuse 8 ≡ sealing out payload k
       unfolding sealing _>>=_
-      write-full r e h f = rw (frameOf e, written-full out 0 (frame payload) (rw size h), f)
+      write-full e h = rw (frameOf e, written-full out 0 (frame payload) (rw size h))
 
       pub write-done : (k′ : Counters) → j ≡ Fine → 1 + length payload + padding + 4 ≤ length out → k′ ≡ counted (length payload) k
           → done (1 + length payload + padding + 4, k′) ≡ sealing out payload k

@@ -7,8 +7,9 @@ use borrow.Author.Tests.{le-leb, lt-leb, leb-true, leb-false, ltb-true, ltb-fals
 use lib.Dec.{leb, ltb}
 use lib.ListN.{length, drop, length-append, length-replicate}
 use lib.Seq.{sets-eq}
+use Rattle.answer.specs.declared.Refusal.{Refusal}
 use Rattle.answer.specs.Answer.{Out, done, refuse, _>>=_}
-use Rattle.answer.proofs.Laws.{split, un-done}
+use Rattle.answer.proofs.Laws.{split, un-done, un-refused}
 use Rattle.put.proofs.PutLaws.{word-length}
 use Rattle.put.specs.Written.{written, buffer}
 use Rattle.framing.specs.declared.Counters.{Counters}
@@ -94,4 +95,4 @@ wrote-unique (Total m j) (Total n k) e =
     cc
 wrote-unique (Total m j) (NotSealed r) e = cc
 wrote-unique (NotSealed q) (Total n k) e = cc
-wrote-unique (NotSealed q) (NotSealed r) e = cc
+wrote-unique (NotSealed q) (NotSealed r) e = ap NotSealed (ap (λ (z : Refusal). z .number) (un-refused e))

@@ -2,7 +2,7 @@
 use mathlib.Core.List.{List}
 use Prim.Native.Nat.{ℕ}
 use lib.ListN.{length}
-use Rattle.answer.specs.Answer.{Out, refused, done, _>>=_}
+use Rattle.answer.specs.Answer.{Out, refused, done, refuse, _>>=_}
 use Rattle.put.specs.Written.{written}
 use Rattle.framing.specs.declared.Counters.{Counters}
 use Rattle.framing.specs.declared.GotPacket.{GotPacket}
@@ -18,7 +18,7 @@ gotPacket (NoPacket r) = refused r
 
 abbrev pub wrote : Sealed → Out (ℕ × Counters)
 wrote (Total n k) = done (n, k)
-wrote (NotSealed r) = refused r
+wrote (NotSealed n) = refuse n
 
 -- what writing a payload at the front of the lent output answers: how many bytes were written, and the new counters
 unfoldable pub sealing : List ℕ → List ℕ → Counters → Out (ℕ × Counters)

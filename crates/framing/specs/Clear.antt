@@ -4,7 +4,7 @@ use mathlib.Core.List.{List, _∷_, _++_}
 use Prim.Native.Nat.{ℕ, _+_, _-_, _%_, min}
 use lib.Dec.{leb, ltb, eqb}
 use lib.ListN.{length, getD, replicate}
-use Rattle.answer.specs.Answer.{Out, done, guard, pick, _>>=_}
+use Rattle.answer.specs.Answer.{Out, done, guard, guardAt, pick, _>>=_}
 use Rattle.put.specs.Written.{word}
 use Rattle.wire.specs.Fields.{bigEndian}
 use Rattle.framing.specs.declared.Counters.{Counters}
@@ -36,9 +36,9 @@ unfoldable pub judgedLength : ℕ → Out (Unit {0})
 judgedLength len = guard 4 (leb len mostLength)
 
 -- Judging the padding of a packet that is whole. Padding under 4, a length that is no multiple of 8, and padding that leaves
--- no room for the byte that says it are taken (docs/DIFFERENCES.md, R1, R2 and R15).
+-- no room for the byte that says it are taken (docs/DIFFERENCES.md, R1, R2 and R15). The padding's byte stands at 4.
 unfoldable pub judgedPadding : ℕ → ℕ → Out (Unit {0})
-judgedPadding len padding = guard 7 (leb padding len)
+judgedPadding len padding = guardAt 7 4 (leb padding len)
 
 -- The counters of a direction after a packet with n payload bytes: the sequence number goes up by one, modulo 2^32; the
 -- byte count stops at its largest value, and nothing sets either back (docs/DIFFERENCES.md, C8, C9, X1 and X3).

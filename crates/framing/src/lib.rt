@@ -10,6 +10,7 @@ use answer::PACKET_SIZE;
 use answer::PADDING;
 use answer::Refusal;
 use answer::refuse;
+use answer::refuse_at;
 use wire::answers::Checked;
 use wire::answers::Place;
 
@@ -23,6 +24,9 @@ pub use sealing::write;
 
 // MAXIMUM_PACKET_LEN of src/cipher/mod.rs.
 const MAXIMUM_PACKET_LEN: usize = 262177;
+
+// Where the byte that says the padding stands.
+const PADDING_AT: usize = 4;
 
 // What a direction counts: packets, modulo 2^32, and payload bytes.
 pub struct Counters {
@@ -44,9 +48,10 @@ pub enum GotPacket {
     Refused(Refusal),
 }
 
+// How many bytes were written and the counters after them, or the number of the refusal.
 pub enum Sealed {
     Total(usize, Counters),
-    Refused(Refusal),
+    Refused(u8),
 }
 
 fn judge_length(len: usize) -> Checked
@@ -62,7 +67,7 @@ fn judge_padding(len: usize, padding: usize) -> Checked
     ensures { λ r. ⌜ checked r ≡ judgedPadding len padding ⌝ }
 {
     if len < padding {
-        return Checked::Refused(refuse(PADDING));
+        return Checked::Refused(refuse_at(PADDING, PADDING_AT));
     }
     Checked::Fine
 }

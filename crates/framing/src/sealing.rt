@@ -12,7 +12,7 @@ ghost use Rattle.framing.specs.Answers.{wrote, sealing};
 use crate::Counters;
 use crate::Sealed;
 use answer::NO_ROOM;
-use answer::refuse;
+use answer::PACKET_SIZE;
 use wire::answers::Checked;
 
 // The most that padding_length answers.
@@ -82,10 +82,10 @@ pub fn write(payload: &[u8], k: Counters, out: &mut [u8]) -> Sealed
     let len = 1 + payload.len() + padding;
     let j = crate::judge_length(len);
     let Checked::Fine = j else {
-        return Sealed::Refused(j.why());
+        return Sealed::Refused(PACKET_SIZE);
     };
     if out.len() < len + 4 {
-        return Sealed::Refused(refuse(NO_ROOM));
+        return Sealed::Refused(NO_ROOM);
     }
     seal(payload, padding as u8, len as u32, out);
     Sealed::Total(len + 4, k.count(payload.len()))

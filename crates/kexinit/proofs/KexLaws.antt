@@ -7,8 +7,7 @@ use native.Mathlib.Nat.{zero-add}
 use borrow.Author.Tests.{ne-eqb, ltb-true, ltb-false}
 use lib.Dec.{ltb, eqb}
 use lib.ListN.{length}
-use Rattle.answer.specs.declared.Refusal.{Refusal}
-use Rattle.answer.specs.Answer.{Out, refused, done, refuse}
+use Rattle.answer.specs.Answer.{Out, done, refuse}
 use Rattle.answer.proofs.Laws.{split, stop}
 use Rattle.put.specs.Written.{word}
 use Rattle.names.specs.Tables.{allNames}
@@ -58,18 +57,18 @@ module _ (t : Tables) (cookie out : List ℕ) where
   unfolding writeKex
   write-refused h = stop 9 _ _ h
 
-  pub kex-cookie : (length cookie ≡ 16 → ⊥) → (r : Refusal) → r ≡ record { number = 9 } → Puts out 0 (writeKex t cookie) (refused r) out
-  kex-cookie h r q =
-      refused-put out 0 _ r 9 (write-refused (rw (ne-eqb (length cookie) 16 h) (split (valid t) (λ e. rw e) (λ e. rw e)))) q
+  pub kex-cookie : (length cookie ≡ 16 → ⊥) → Puts out 0 (writeKex t cookie) (refuse 9) out
+  kex-cookie h =
+      refused-put out 0 _ 9 (write-refused (rw (ne-eqb (length cookie) 16 h) (split (valid t) (λ e. rw e) (λ e. rw e))))
 
   module _ (own : Own) (made : own ≡ ownOf t) where
     unlisted : (own .number ≡ 0 → ⊥) → valid t ≡ false
     unfolding listsOf
     unlisted h = split (valid t) (λ e. absurd (h (ap (λ (o : Own). o .number) (made ∙ own-lists t e)))) (λ e. e)
 
-    pub kex-tables : (own .number ≡ 0 → ⊥) → (r : Refusal) → r ≡ record { number = own .number } → Puts out 0 (writeKex t cookie) (refused r) out
+    pub kex-tables : (own .number ≡ 0 → ⊥) → Puts out 0 (writeKex t cookie) (refuse (own .number)) out
     unfolding noOwn
-    kex-tables h r q = refused-put out 0 _ r 9 (write-refused (rw (unlisted h))) (q ∙ rw (made, own-nothing t (unlisted h)))
+    kex-tables h = rw (made, own-nothing t (unlisted h)) (refused-put out 0 _ 9 (write-refused (rw (unlisted h))))
 
     pub kex-put : own .number ≡ 0 → length cookie ≡ 16 → (r : Out ℕ) (out′ : List ℕ)
         → (r ≡ answered columns out own cookie) × (out′ ≡ left columns out own cookie) → Puts out 0 (writeKex t cookie) r out′
@@ -81,7 +80,7 @@ module _ (t : Tables) (cookie out : List ℕ) where
         split (ltb (length out) (length (kexInit t cookie)))
         (λ e.
         let f = rw e at g in
-        rw (f .0, f .1) (full-put out 0 _ (kexInit t cookie) _ d (rw zero-add (ltb-true _ _ e)) refl))
+        rw (f .0, f .1) (full-put out 0 _ (kexInit t cookie) d (rw zero-add (ltb-true _ _ e))))
         (λ e.
         let f = rw e at g in
         let l : 0 + length (kexInit t cookie) ≤ length out = rw zero-add (ltb-false _ _ e) in

@@ -4,17 +4,16 @@ use mathlib.Core.List.{List}
 use Prim.Native.Nat.{ℕ, _≤_, _<_}
 use borrow.Author.Tests.{lt-ltb, le-ltb}
 use lib.ListN.{length}
-use Rattle.answer.specs.declared.Refusal.{Refusal}
-use Rattle.answer.specs.Answer.{Out, refused, done}
+use Rattle.answer.specs.Answer.{Out, done, refuse}
 use Rattle.put.specs.Runs.{ended, filled}
 use Rattle.preferred.specs.declared.Own.{Own}
 use Rattle.kexinit.specs.Pieces.{pieces, size, answered, left}
 
 -- by what was measured: the answer, and the buffer
 module _ (name : ℕ → Out (List ℕ)) (out : List ℕ) (own : Own) (cookie : List ℕ) (n : ℕ) (measured : n ≡ size name own) where
-  pub full-answer : (r : Refusal) → length out < n → r ≡ record { number = 8 } → refused r ≡ answered name out own cookie
+  pub full-answer : length out < n → refuse 8 ≡ answered name out own cookie
   unfolding answered
-  full-answer r h q = rw (q, ← measured, lt-ltb (length out) n h)
+  full-answer h = rw (← measured, lt-ltb (length out) n h)
 
   pub full-bytes : length out < n → out ≡ left name out own cookie
   unfolding left

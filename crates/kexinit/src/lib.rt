@@ -12,7 +12,6 @@ ghost use Rattle.negotiation.specs.Written.{writeKex};
 ghost use Rattle.kexinit.specs.Pieces.{once, head, twice, ending, pieces, size, answered, left};
 use answer::BAD_TABLE;
 use answer::NO_ROOM;
-use answer::refuse;
 use choice::Side;
 use filters::RowList;
 use lists::put_rows;
@@ -153,7 +152,7 @@ fn put_own(
     ensures bytes { λ r. ⌜ now (out .exit) ≡ left (rowName (now (spellings .entry)) (now (starts .entry)) (now (lengths .entry))) (now (out .entry)) own (now (cookie .entry)) ⌝ }
 {
     if out.len() < size(spellings, starts, lengths, own) {
-        return Put::Refused(refuse(NO_ROOM));
+        return Put::Refused(NO_ROOM);
     }
     Put::Next(put_pieces(spellings, starts, lengths, own, cookie, out))
 }
@@ -215,10 +214,10 @@ pub fn write_kex(
         cert_ids,
     );
     if lists.number != 0 {
-        return Put::Refused(refuse(lists.number));
+        return Put::Refused(lists.number);
     }
     if cookie.len() != COOKIE {
-        return Put::Refused(refuse(BAD_TABLE));
+        return Put::Refused(BAD_TABLE);
     }
     put_own(
         &tables::SPELLINGS,

@@ -4,10 +4,8 @@ use mathlib.Core.Option.{Option}
 use mathlib.Core.Path.{_≡_, refl}
 use Prim.Native.Nat.{ℕ}
 use borrow.Author.Tests.{ne-eqb}
-use Rattle.answer.specs.declared.Refusal.{Refusal}
-use Rattle.answer.specs.Answer.{Out, refused, done, _>>=_}
+use Rattle.answer.specs.Answer.{Out, done, refuse, _>>=_}
 use Rattle.put.specs.Written.{written, buffer}
-use Rattle.wire.proofs.FieldLaws.{No}
 use Rattle.names.specs.Lookup.{numberOf}
 use Rattle.names.specs.declared.Kind.{Kind}
 use Rattle.names.specs.declared.Kind.the-variants.{Kex, Key, Certificate, Cipher, Mac, Compression}
@@ -43,11 +41,10 @@ module _ (n : ℕ) where
   unfolding kindOf
   kind-compression e = rw e
 
-  pub kind-none : (r : Refusal) → (n ≡ 0 → ⊥) → (n ≡ 1 → ⊥) → (n ≡ 2 → ⊥) → (n ≡ 3 → ⊥) → (n ≡ 4 → ⊥) → (n ≡ 5 → ⊥) → No 9 r
-      → refused r ≡ kindOf n
+  pub kind-none : (n ≡ 0 → ⊥) → (n ≡ 1 → ⊥) → (n ≡ 2 → ⊥) → (n ≡ 3 → ⊥) → (n ≡ 4 → ⊥) → (n ≡ 5 → ⊥) → refuse 9 ≡ kindOf n
   unfolding kindOf
-  kind-none r a b c d e f h =
-      rw (ne-eqb n 0 a, ne-eqb n 1 b, ne-eqb n 2 c, ne-eqb n 3 d, ne-eqb n 4 e, ne-eqb n 5 f, h)
+  kind-none a b c d e f =
+      rw (ne-eqb n 0 a, ne-eqb n 1 b, ne-eqb n 2 c, ne-eqb n 3 d, ne-eqb n 4 e, ne-eqb n 5 f)
 
 pub ruleset kind-laws = (kind-kex, kind-key, kind-certificate, kind-cipher, kind-mac, kind-compression, kind-none)
 
@@ -57,7 +54,7 @@ module _ {B : Type 0} (n : ℕ) (g : GotKind) (told : gotKind g ≡ kindOf n) wh
   unfolding _>>=_
   kind-on k f e = rw (← told, e)
 
-  pub kind-off : (r : Refusal) (f : Kind → Out B) → g ≡ Refused r → kindOf n >>= f ≡ refused r
+  pub kind-off : (r : ℕ) (f : Kind → Out B) → g ≡ Refused r → kindOf n >>= f ≡ refuse r
   unfolding _>>=_
   kind-off r f e = rw (← told, e)
 
@@ -68,11 +65,11 @@ module _ (out : List ℕ) (n : ℕ) (g : GotKind) (told : gotKind g ≡ kindOf n
   pub put-on-bytes : (k : Kind) (b : List ℕ) → g ≡ Of k → b ≡ buffer out 0 (f k) → b ≡ buffer out 0 (kindOf n >>= f)
   put-on-bytes k b e h = rw (kind-on n g told k f e, h)
 
-  pub put-off : (r : Refusal) → g ≡ Refused r → refused r ≡ written out 0 (kindOf n >>= f)
+  pub put-off : (r : ℕ) → g ≡ Refused r → refuse r ≡ written out 0 (kindOf n >>= f)
   unfolding written _>>=_
   put-off r e = rw (kind-off n g told r f e)
 
-  pub put-off-bytes : (r : Refusal) → g ≡ Refused r → out ≡ buffer out 0 (kindOf n >>= f)
+  pub put-off-bytes : (r : ℕ) → g ≡ Refused r → out ≡ buffer out 0 (kindOf n >>= f)
   unfolding buffer
   put-off-bytes r e = rw (kind-off n g told r f e)
 
@@ -84,8 +81,8 @@ module _ (name : List ℕ) (n : ℕ) (g : GotKind) where
   unfolding numbered
   found-on k r y e told h i = rw (kind-on n g told k (λ k. done (numberOf k name)) e, h, i)
 
-  pub found-off : (r : Refusal) → g ≡ Refused r → gotKind g ≡ kindOf n
-      → _≡_ {A = Number} (record { what = 0; number = r .number; value = 0 })
+  pub found-off : (r : ℕ) → g ≡ Refused r → gotKind g ≡ kindOf n
+      → _≡_ {A = Number} (record { what = 0; number = r; value = 0 })
       (numbered (kindOf n >>= (λ k. done (numberOf k name))))
   unfolding numbered
   found-off r e told = rw (kind-off n g told r (λ k. done (numberOf k name)) e)

@@ -3,7 +3,7 @@ use mathlib.Core.List.{List, []}
 use mathlib.Core.Option.{Option}
 use Prim.Native.Nat.{ℕ}
 use lib.Dec.{eqb}
-use Rattle.answer.specs.Answer.{Out, refused, refuse, done, pick, _>>=_}
+use Rattle.answer.specs.Answer.{Out, refuse, done, pick, _>>=_}
 use Rattle.names.specs.Spelled.{spelled}
 use Rattle.names.specs.Lookup.{numberOf}
 use Rattle.names.specs.declared.Kind.{Kind}
@@ -51,4 +51,4 @@ defaultList kind = do
 -- what a `GotKind` means
 abbrev pub gotKind : GotKind → Out Kind
 gotKind (Of k) = done k
-gotKind (Refused r) = refused r
+gotKind (Refused n) = refuse n

@@ -8,8 +8,6 @@ ghost use Rattle.names.specs.Spelled.{flag};
 ghost use Rattle.kinds.specs.Kinds.{kindOf, nameOf, namedOf, defaultList, defaultOf, gotKind};
 ghost use Rattle.kinds.specs.Numbers.{foundOf, numbered, truthOf};
 use answer::BAD_TABLE;
-use answer::Refusal;
-use answer::refuse;
 use names::Flag;
 use names::Found;
 use names::Kind;
@@ -35,7 +33,7 @@ pub struct Truth {
 
 pub enum GotKind {
     Of(Kind),
-    Refused(Refusal),
+    Refused(u8),
 }
 
 fn kind_of(n: u8) -> GotKind
@@ -59,7 +57,7 @@ fn kind_of(n: u8) -> GotKind
     if n == 5 {
         return GotKind::Of(Kind::Compression);
     }
-    GotKind::Refused(refuse(BAD_TABLE))
+    GotKind::Refused(BAD_TABLE)
 }
 
 // The name of a number of a kind.
@@ -69,7 +67,7 @@ pub fn spell(kind: u8, number: u8, out: &mut [u8]) -> Put
 {
     match kind_of(kind) {
         GotKind::Of(k) => names::put_name(k, number, out, 0),
-        GotKind::Refused(r) => Put::Refused(r),
+        GotKind::Refused(n) => Put::Refused(n),
     }
 }
 
@@ -96,9 +94,9 @@ pub fn number_of(kind: u8, name: &[u8]) -> Number
 {
     match kind_of(kind) {
         GotKind::Of(k) => found_of(names::lookup(k, name)),
-        GotKind::Refused(r) => Number {
+        GotKind::Refused(number) => Number {
             what: REFUSED,
-            number: r.number,
+            number,
             value: 0,
         },
     }
@@ -113,9 +111,9 @@ pub fn truth_of(f: Flag) -> Truth
             number: 0,
             value,
         },
-        Flag::Refused(r) => Truth {
+        Flag::Refused(number) => Truth {
             what: REFUSED,
-            number: r.number,
+            number,
             value: false,
         },
     }
@@ -141,6 +139,6 @@ pub fn default_list(kind: u8, out: &mut [u8]) -> Put
 {
     match kind_of(kind) {
         GotKind::Of(k) => put_default(k, out),
-        GotKind::Refused(r) => Put::Refused(r),
+        GotKind::Refused(n) => Put::Refused(n),
     }
 }

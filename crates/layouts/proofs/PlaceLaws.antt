@@ -10,7 +10,7 @@ use borrow.Author.Tests.{leb-true}
 use lib.Dec.{leb}
 use lib.ListN.{length, drop, length-drop}
 use lib.Seq.{drop-drop, take-all}
-use Rattle.answer.specs.Answer.{Out, done, guard, _>>=_}
+use Rattle.answer.specs.Answer.{Out, done, guardAt, _>>=_}
 use Rattle.answer.proofs.Laws.{split}
 use Rattle.answer.proofs.WalkLaws.{Post, at-end, go-on, of-accepted, passed}
 use Rattle.text.specs.Literal.{bytes}
@@ -54,15 +54,15 @@ module _ (b : List ℕ) where
 
   word-on : (c : At) → On b c → Post (λ (x : ℕ × At). On b (x .1) × (x .1 .at ≡ c .at + 4)) (word c)
   unfolding word
-  word-on c o = go-on (guard 2 (leb 4 (length (c .left)))) _ (λ u g. at-end (moved 4 c o (passed 2 _ u g), refl))
+  word-on c o = go-on (guardAt 2 (c .at) (leb 4 (length (c .left)))) _ (λ u g. at-end (moved 4 c o (passed 2 (c .at) _ u g), refl))
 
   run-on : (c : At) → On b c → Post (λ (x : Run × At). Ran b (x .0) (x .1)) (run c)
   unfolding run
   run-on c o =
       go-on (word c) _ (λ x e.
       let d = of-accepted x (word-on c o) e .0 in
-      go-on (guard 2 (leb (x .0) (length (x .1 .left)))) _ (λ u g.
-      at-end (record { bytes = rw (d .left); ends = refl; then = moved (x .0) (x .1) d (passed 2 _ u g) })))
+      go-on (guardAt 2 (c .at) (leb (x .0) (length (x .1 .left)))) _ (λ u g.
+      at-end (record { bytes = rw (d .left); ends = refl; then = moved (x .0) (x .1) d (passed 2 (c .at) _ u g) })))
 
   pub string-on : (c : At) → On b c → Post (λ (x : Run × At). Ran b (x .0) (x .1) × Lies b (x .0 .place)) (string c)
   unfolding string
@@ -71,8 +71,8 @@ module _ (b : List ℕ) where
       let r = of-accepted x (run-on c o) e in
       let w = r .then .within in
       let f = r .ends in
-      go-on (guard 3 (utf8 (x .0 .bytes))) _ (λ u g.
-      at-end (r, record { inside = omega arith; text = rw (r .bytes) at (passed 3 (utf8 (x .0 .bytes)) u g) })))
+      go-on (guardAt 3 (c .at) (utf8 (x .0 .bytes))) _ (λ u g.
+      at-end (r, record { inside = omega arith; text = rw (r .bytes) at (passed 3 (c .at) (utf8 (x .0 .bytes)) u g) })))
 
   pub start-on : On b (here b 0)
   start-on = record { left = refl; within = omega arith }

@@ -7,8 +7,7 @@ use native.Mathlib.Omega.{arith}
 use borrow.Author.Tests.{not-true, not-false}
 use lib.ListN.{length, length-append}
 use lib.Seq.{sets}
-use Rattle.answer.specs.declared.Refusal.{Refusal}
-use Rattle.answer.specs.Answer.{Out, refused, done, refuse, _>>=_}
+use Rattle.answer.specs.Answer.{Out, done, refuse, _>>=_}
 use Rattle.answer.proofs.Laws.{split}
 use Rattle.put.specs.Written.{string, word}
 use Rattle.put.proofs.PutLaws.{string-short, string-long, word-length}
@@ -102,9 +101,8 @@ module _ (spellings starts lengths rows : List ℕ) where
         list-size : length (word (length (join (texts name rows))) ++ join (texts name rows)) ≡ 4 + len
         list-size = rw (length-append, word-length, is-length)
 
-        pub list-full : (out : List ℕ) (at : ℕ) (r : Refusal) → length out < at + (4 + len) → r ≡ record { number = 8 }
-            → Puts out at (listBy name rows) (refused r) out
-        list-full out at r h q = full-put out at (listBy name rows) _ r (list-short l) (rw list-size h) q
+        pub list-full : (out : List ℕ) (at : ℕ) → length out < at + (4 + len) → Puts out at (listBy name rows) (refuse 8) out
+        list-full out at h = full-put out at (listBy name rows) _ (list-short l) (rw list-size h)
 
         pub list-put : (out : List ℕ) (at : ℕ) (out′ : List ℕ) (r : ℕ) → at + (4 + len) ≤ length out
             → (r ≡ at + (4 + length (join (texts name rows)))) × (out′ ≡ sets out at (word len ++ join (texts name rows)))

@@ -13,7 +13,6 @@ ghost use Rattle.lists.specs.Texts.{named, texts, nameAndComma, most, si
 use answer::BAD_TABLE;
 use answer::NO_ROOM;
 use answer::TOO_LONG;
-use answer::refuse;
 use names::inside;
 use names::spelling;
 use names::wide;
@@ -162,19 +161,19 @@ pub fn put_rows(
     ensures bytes { λ r. ⌜ now (out .exit) ≡ buffer (now (out .entry)) at (listBy (rowName (now (spellings .entry)) (now (starts .entry)) (now (lengths .entry))) (now (rows .entry))) ⌝ }
 {
     if !known(spellings, starts, lengths, rows) {
-        return Put::Refused(refuse(BAD_TABLE));
+        return Put::Refused(BAD_TABLE);
     }
     let total = size(spellings, starts, lengths, rows);
     if MOST <= total {
-        return Put::Refused(refuse(TOO_LONG));
+        return Put::Refused(TOO_LONG);
     }
     let len = less(total);
     // By a difference, since a sum could wrap.
     if out.len() < at {
-        return Put::Refused(refuse(NO_ROOM));
+        return Put::Refused(NO_ROOM);
     }
     if out.len() - at < 4 + len {
-        return Put::Refused(refuse(NO_ROOM));
+        return Put::Refused(NO_ROOM);
     }
     Put::Next(store_list(spellings, starts, lengths, rows, len as u32, out, at))
 }

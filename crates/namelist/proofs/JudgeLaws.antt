@@ -10,7 +10,7 @@ use lib.Dec.{ltb}
 use lib.ListN.{length, take, drop, length-drop, length-take, take-append-drop}
 use Rattle.answer.specs.Answer.{Out, refused, done, _>>=_}
 use Rattle.answer.specs.declared.Refusal.{Refusal}
-use Rattle.answer.proofs.Laws.{and-left, and-right, bind-done}
+use Rattle.answer.proofs.Laws.{No, NoAt, and-left, and-right, bind-done}
 use Rattle.text.specs.Same.{ascii, highest}
 use Rattle.text.specs.Utf8.{utf8}
 use Rattle.text.proofs.Utf8Laws.{ascii-utf8}
@@ -29,7 +29,6 @@ use Rattle.wire.specs.Fields.{At, Run, here, run}
 use Rattle.wire.specs.Walk.{nextName}
 use Rattle.wire.specs.Shown.{part}
 use Rattle.wire.specs.Answers.{nextOf, runAt, gotText, checked, whyNotFine}
-use Rattle.wire.proofs.FieldLaws.{No}
 use Rattle.wire.proofs.RunLaws.{Inside, run-inside, text-bytes, text-order, text-within}
 use Rattle.wire.proofs.WalkLaws.{names-left, name-inside, name-less, none-left}
 use Rattle.namelist.specs.Judged.{judged, judgedList, nameList, standing}
@@ -107,7 +106,7 @@ module _ (s : List ℕ) (i : ℕ) (r : GotText) (told : gotText s r ≡ run (her
     part-length : length (part p s) ≡ p .len
     part-length = let h = run-inside s i p (c .at) (rw e at told) in simp (length-take, length-drop) (omega arith)
 
-    pub list-long : (q : Refusal) → 16384 < p .len → No 2 q → refused q ≡ nameList (here s i)
+    pub list-long : (q : Refusal) → 16384 < p .len → NoAt 2 i q → refused q ≡ nameList (here s i)
     unfolding nameList _>>=_
     list-long q h k = rw (← told, e, part-length, lt-leb (p .len) 16384 h, k)
 
@@ -116,9 +115,9 @@ module _ (s : List ℕ) (i : ℕ) (r : GotText) (told : gotText s r ≡ run (her
       unfolding nameList _>>=_
       list-at g = rw (← told, e, part-length, le-leb (p .len) 16384 h, ← text-bytes s i r told p c e, ← f, g)
 
-      pub list-bad-names : (x q : Refusal) → j ≡ NotFine x → q ≡ whyNotFine j → refused q ≡ nameList (here s i)
+      pub list-bad-names : (x y q : Refusal) → j ≡ NotFine x → y ≡ whyNotFine j → NoAt (y .number) i q → refused q ≡ nameList (here s i)
       unfolding nameList _>>=_
-      list-bad-names x q g k = rw (← told, e, part-length, le-leb (p .len) 16384 h, ← text-bytes s i r told p c e, ← f, k, g)
+      list-bad-names x y q g k l = rw (← told, e, part-length, le-leb (p .len) 16384 h, ← text-bytes s i r told p c e, ← f, l, k, g)
 
 pub ruleset list-laws = (list-ascii, list-utf8, list-bad, list-stop, list-long, list-at, list-bad-names, text-order, text-within)
 

@@ -4,7 +4,7 @@ use mathlib.Core.List.{List, [], _∷_}
 use Prim.Native.Nat.{ℕ, _+_}
 use lib.Dec.{leb}
 use lib.ListN.{length}
-use Rattle.answer.specs.Answer.{Out, refused, done, guard, _>>=_}
+use Rattle.answer.specs.Answer.{Out, refused, done, guard, guardAt, placed, _>>=_}
 use Rattle.text.specs.Utf8.{utf8}
 use Rattle.text.specs.Same.{ascii}
 use Rattle.commas.specs.Cut.{cut, empty}
@@ -37,10 +37,10 @@ judgedList s = do
   _ ← guard 3 (utf8 s)
   judged 0 (cut s)
 
--- a name-list: the string, then its length, then its bytes (C7)
+-- a name-list: the string, then its length, then its bytes (C7); whatever is wrong with them, the list is what is refused
 unfoldable pub nameList : At → Out (Run × At)
 nameList c = do
   (t, c′) ← run c
-  _ ← guard 2 (leb (length (t .bytes)) mostListBytes)
-  _ ← judgedList (t .bytes)
+  _ ← guardAt 2 (c .at) (leb (length (t .bytes)) mostListBytes)
+  _ ← placed (c .at) (judgedList (t .bytes))
   done (t, c′)

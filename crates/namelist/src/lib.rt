@@ -12,6 +12,7 @@ ghost use Rattle.namelist.specs.Judged.{standing, judged, judgedList, na
 use answer::NOT_UTF8;
 use answer::PAST_END;
 use answer::refuse;
+use answer::refuse_at;
 use wire::answers::Checked;
 use wire::answers::Cursor;
 use wire::answers::GotText;
@@ -75,6 +76,7 @@ fn judge(list: &[u8]) -> Checked
     Checked::Refused(refuse(NOT_UTF8))
 }
 
+// The list is refused where it starts, whichever of its names offends.
 pub fn name_list(c: Cursor, s: &[u8]) -> GotText
     ensures { λ r. ⌜ gotText (now (s .entry)) r ≡ nameList (here (now (s .entry)) (c .at)) ⌝ }
 {
@@ -85,11 +87,12 @@ pub fn name_list(c: Cursor, s: &[u8]) -> GotText
     let start = p.start;
     let end = d.at;
     if MAX_NAME_LIST_BYTES < p.len {
-        return GotText::Refused(refuse(PAST_END));
+        return GotText::Refused(refuse_at(PAST_END, c.at));
     }
     let j = judge(&s[start..end]);
     let Checked::Fine = j else {
-        return GotText::Refused(j.why());
+        let why = j.why();
+        return GotText::Refused(refuse_at(why.number, c.at));
     };
     GotText::Text(p, d)
 }

@@ -10,7 +10,6 @@ use native.Mathlib.Omega.{arith}
 use lib.Dec.{ltb, leb}
 use lib.ListN.{length, getD, take, drop}
 use borrow.Author.Tests.{lt-ltb, le-ltb, ltb-true, ltb-false, leb-true}
-use Rattle.answer.specs.declared.Refusal.{Refusal}
 use Rattle.answer.specs.Answer.{Out, refused, done, guard, refuse, _>>=_}
 use Rattle.answer.proofs.Laws.{split, pass, stop}
 use Rattle.put.specs.Written.{written, buffer}
@@ -31,8 +30,8 @@ module _ {A : Type 0} (d : A) (xs : List A) (n : ℕ) where
   pub column-in : (m : ℕ) → m ≡ n → m < length xs → done (getD xs m d) ≡ entry d xs n
   column-in m e h = rw e (sym (entry-in (rw e at h)))
 
-  pub column-out : (m : ℕ) (r : Refusal) → m ≡ n → r ≡ record { number = 9 } → length xs ≤ m → refused r ≡ entry d xs n
-  column-out m r e p h = rw p (sym (entry-out (rw e at h)))
+  pub column-out : (m : ℕ) → m ≡ n → length xs ≤ m → refuse 9 ≡ entry d xs n
+  column-out m e h = sym (entry-out (rw e at h))
 
 -- a name that is there, and one that is not
 pub shown : (w : Out (List ℕ)) → there w ≡ true → w ≡ done (bytesOf w)
@@ -136,9 +135,9 @@ module _ (spellings starts lengths : List ℕ) (n : ℕ) where
           → out′ ≡ buffer out at (done x) → out′ ≡ buffer out at (rowName spellings starts lengths n)
       row-buffer x out′ h e w = rw (shown (rowName spellings starts lengths n) (sym tested ∙ h), ← e) w
 
-      pub row-refused : (r : Refusal) → b ≡ false → r ≡ record { number = 9 } → refused r ≡ written out at (rowName spellings starts lengths n)
+      pub row-refused : b ≡ false → refuse 9 ≡ written out at (rowName spellings starts lengths n)
       unfolding written _>>=_
-      row-refused r h e = rw (at-outside h, e)
+      row-refused h = rw (at-outside h)
 
       pub row-kept : b ≡ false → out ≡ buffer out at (rowName spellings starts lengths n)
       unfolding buffer

@@ -4,8 +4,7 @@ use mathlib.Core.List.{List, []}
 use Prim.Native.Nat.{ℕ, _+_, _≤_, _<_}
 use native.Mathlib.Omega.{arith}
 use lib.ListN.{length}
-use Rattle.answer.specs.declared.Refusal.{Refusal}
-use Rattle.answer.specs.Answer.{Out, refused}
+use Rattle.answer.specs.Answer.{Out, refuse}
 use Rattle.names.specs.declared.Kind.{Kind}
 use Rattle.names.specs.Tables.{namesOf, allNames, firstRow}
 use Rattle.names.specs.Spelled.{rowName, spelled}
@@ -19,10 +18,10 @@ abbrev pub tableRow : ℕ → Out (List ℕ)
 tableRow n = rowName (flat allNames) (starts 0 allNames) (lengths allNames) n
 
 module _ (k : Kind) (number n : ℕ) (e : n ≡ number) (count : ℕ) (c : count ≡ length (namesOf k)) where
-  pub refuses : (out : List ℕ) (at : ℕ) (r : Refusal) → count ≤ n → r ≡ record { number = 9 } → Puts out at (spelled k number) (refused r) out
-  refuses out at r h q =
+  pub refuses : (out : List ℕ) (at : ℕ) → count ≤ n → Puts out at (spelled k number) (refuse 9) out
+  refuses out at h =
       let l : length (namesOf k) ≤ number = omega arith in
-      refused-put out at (spelled k number) r 9 (entry-out [] (namesOf k) number l) q
+      refused-put out at (spelled k number) 9 (entry-out [] (namesOf k) number l)
 
   module _ (first : ℕ) (f : first ≡ firstRow k) (h : n < count) where
     pub row-fits : first + n < 44

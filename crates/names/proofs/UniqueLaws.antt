@@ -1,5 +1,7 @@
 -- No two answers have one meaning. Assumes nothing.
-use mathlib.Core.Path.{_≡_, refl}
+use mathlib.Core.Path.{_≡_, refl, ap}
+use Rattle.answer.specs.declared.Refusal.{Refusal}
+use Rattle.answer.proofs.Laws.{un-refused}
 use Rattle.names.specs.declared.Found.{Found}
 use Rattle.names.specs.declared.Found.the-variants.{Number, Unknown}
 use Rattle.names.specs.declared.Row.{Row}
@@ -25,4 +27,4 @@ pub flag-unique : (a b : Flag) → flag a ≡ flag b → a ≡ b
 flag-unique (Is x) (Is y) e = cc
 flag-unique (Is x) (Refused r) e = cc
 flag-unique (Refused r) (Is y) e = cc
-flag-unique (Refused q) (Refused r) e = cc
+flag-unique (Refused q) (Refused r) e = ap Refused (ap (λ (z : Refusal). z .number) (un-refused e))

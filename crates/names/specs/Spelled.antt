@@ -4,7 +4,7 @@ use mathlib.Core.List.{List, []}
 use Prim.Native.Nat.{ℕ, _+_}
 use lib.Dec.{ltb, leb}
 use lib.ListN.{length, getD, take, drop}
-use Rattle.answer.specs.Answer.{Out, refused, done, guard, _>>=_}
+use Rattle.answer.specs.Answer.{Out, refused, done, refuse, guard, _>>=_}
 use Rattle.names.specs.declared.Kind.{Kind}
 use Rattle.names.specs.declared.Flag.{Flag}
 use Rattle.names.specs.declared.Flag.the-variants.{Is, Refused}
@@ -40,7 +40,7 @@ there (done x) = true
 -- what a `Flag` means
 abbrev pub flag : Flag → Out Bool
 flag (Is b) = done b
-flag (Refused r) = refused r
+flag (Refused n) = refuse n
 
 abbrev pub needsMac : ℕ → Out Bool
 needsMac n = entry false needMac n

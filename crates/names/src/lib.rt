@@ -6,7 +6,6 @@ ghost use mathlib.Core.Path.{_≡_};
 ghost use lib.ListN.{length};
 ghost use Rattle.names.specs.Tables.{namesOf, firstRow};
 ghost use Rattle.names.specs.Spelled.{flag, needsMac, builtInIntegrity};
-use answer::Refusal;
 
 mod numbers;
 mod rows;
@@ -66,10 +65,10 @@ pub enum Row {
     Nowhere,
 }
 
-// What a column of the table says.
+// What a column of the table says, or the number of the refusal.
 pub enum Flag {
     Is(bool),
-    Refused(Refusal),
+    Refused(u8),
 }
 
 impl Kind {

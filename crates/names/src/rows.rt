@@ -13,7 +13,6 @@ ghost use Rattle.names.specs.Lookup.{rowFrom, is, foundRow};
 use super::Flag;
 use super::Row;
 use answer::BAD_TABLE;
-use answer::refuse;
 use put::Put;
 
 // A byte as an index, with its bound.
@@ -106,7 +105,7 @@ pub fn put_row(
     if inside(spellings, starts, lengths, row) {
         return put::put_bytes(out, at, spelling(spellings, starts, lengths, row));
     }
-    Put::Refused(refuse(BAD_TABLE))
+    Put::Refused(BAD_TABLE)
 }
 
 // What a column of bools says at a number.
@@ -117,6 +116,6 @@ pub fn flag_at(column: &[bool], number: u8) -> Flag
     if n < column.len() {
         Flag::Is(column[n])
     } else {
-        Flag::Refused(refuse(BAD_TABLE))
+        Flag::Refused(BAD_TABLE)
     }
 }

@@ -9,7 +9,6 @@ use super::Kind;
 use super::rows;
 use super::tables;
 use answer::BAD_TABLE;
-use answer::refuse;
 use put::Put;
 
 pub fn put_name(kind: Kind, number: u8, out: &mut [u8], at: usize) -> Put
@@ -18,7 +17,7 @@ pub fn put_name(kind: Kind, number: u8, out: &mut [u8], at: usize) -> Put
 {
     let n = rows::wide(number);
     if kind.count() <= n {
-        return Put::Refused(refuse(BAD_TABLE));
+        return Put::Refused(BAD_TABLE);
     }
     let row = kind.first_row() + n;
     rows::put_row(

@@ -11,6 +11,7 @@ use borrow.Author.Tests.{leb-true, ltb-true, le-leb, lt-leb, eqb-true, eq-eqb, l
 use lib.Dec.{leb, ltb, eqb}
 use lib.ListN.{length, getD}
 use Rattle.answer.specs.Answer.{Out, refused, done, guard, pick, _>>=_}
+use Rattle.answer.specs.declared.Refusal.{Refusal}
 use Rattle.answer.proofs.Laws.{split, never, and-left, and-right, bind-done, un-done}
 use Rattle.answer.proofs.WalkLaws.{Post, nothing, at-end, go-on, of-accepted, passed}
 use Rattle.wire.specs.Fields.{At, here}
@@ -89,34 +90,34 @@ module _ (side : Side) (own : List ℕ) where
 
   -- is what the rule makes of a choice
   picked-ruled : (rule : Rule) (n : ℕ) (c : At) (x : ℕ × Bool × At) → picked spellsName side rule n own c ≡ done x
-      → (peer : List (List ℕ)) × (ruled rule n (chosenRow spellsName side own peer) ≡ done (x .0))
+      → (peer : List (List ℕ)) × (ruled rule (record { number = n; offset = c .at }) (chosenRow spellsName side own peer) ≡ done (x .0))
   unfolding picked pickedFrom
   picked-ruled rule n c x e =
       let a = bind-done _ _ x e in
       let b = bind-done _ _ x (a .2) in
       (cut (a .0 .0 .bytes), rw (ap (λ (y : ℕ × Bool × At). y .0) (un-done (b .2))) at (b .1))
 
-  needed-some : (n : ℕ) (o : Option ℕ) (r : ℕ) → ruled Needed n o ≡ done r → o ≡ some r
+  needed-some : (q : Refusal) (o : Option ℕ) (r : ℕ) → ruled Needed q o ≡ done r → o ≡ some r
   unfolding ruled
-  needed-some n none r h = never (cc)
-  needed-some n (some x) r h = cc
+  needed-some q none r h = never (cc)
+  needed-some q (some x) r h = cc
 
   needed-member : (n : ℕ) (c : At) (x : ℕ × Bool × At) → picked spellsName side Needed n own c ≡ done x → member (x .0) own ≡ true
-  needed-member n c x e = let a = picked-ruled Needed n c x e in chosen-member (a .0) (x .0) (needed-some n _ (x .0) (a .1))
+  needed-member n c x e = let a = picked-ruled Needed n c x e in chosen-member (a .0) (x .0) (needed-some _ _ (x .0) (a .1))
 
-  mac-some : (b : Bool) (o : Option ℕ) (r : ℕ) → ruled (pick b Protected Optional) 13 o ≡ done r → (o ≡ some r) ⊎ ((r ≡ noneRow) × (b ≡ false))
+  mac-some : (q : Refusal) (b : Bool) (o : Option ℕ) (r : ℕ) → ruled (pick b Protected Optional) q o ≡ done r → (o ≡ some r) ⊎ ((r ≡ noneRow) × (b ≡ false))
   unfolding ruled
-  mac-some true none r h = never (cc)
-  mac-some true (some x) r h = split (eqb x noneRow) (λ e. never (cc)) (λ e. let q = rw e at h in inl (cc))
-  mac-some false none r h = inr (cc, refl)
-  mac-some false (some x) r h = inl (cc)
+  mac-some q true none r h = never (cc)
+  mac-some q true (some x) r h = split (eqb x noneRow) (λ e. never (cc)) (λ e. let d = rw e at h in inl (cc))
+  mac-some q false none r h = inr (cc, refl)
+  mac-some q false (some x) r h = inl (cc)
 
   mac-member : (cipher : ℕ) (c : At) (x : ℕ × Bool × At) → picked spellsName side (macRule cipher) 13 own c ≡ done x
       → (member (x .0) own ≡ true) ⊎ ((x .0 ≡ noneRow) × (getD needMac cipher false ≡ false))
   unfolding macRule
   mac-member cipher c x e =
       let a = picked-ruled (macRule cipher) 13 c x e in
-      ⊎-elim (λ s. inl (chosen-member (a .0) (x .0) s)) (λ f. inr f) (mac-some (getD needMac cipher false) _ (x .0) (a .1))
+      ⊎-elim (λ s. inl (chosen-member (a .0) (x .0) s)) (λ f. inr f) (mac-some _ (getD needMac cipher false) _ (x .0) (a .1))
 
 -- what holds of the rows
 module _ (t : Tables) where
@@ -230,9 +231,9 @@ all-passed t strictAgreed p n e =
     let b = bind-done (guard 1 (leb (length p) mostKexInit)) _ n (a .2) in
     let c = bind-done (guard 6 (leb 17 (length p))) _ n (b .2) in
     record {
-      tables = passed 9 (valid t) (a .0) (a .1);
-      most = leb-true (length p) mostKexInit (passed 1 (leb (length p) mostKexInit) (b .0) (b .1));
-      least = leb-true 17 (length p) (passed 6 (leb 17 (length p)) (c .0) (c .1));
+      tables = passed 9 0 (valid t) (a .0) (a .1);
+      most = leb-true (length p) mostKexInit (passed 1 0 (leb (length p) mostKexInit) (b .0) (b .1));
+      least = leb-true 17 (length p) (passed 6 0 (leb 17 (length p)) (c .0) (c .1));
     }
 
 pub all-known : (t : Tables) (strictAgreed : Bool) (p : List ℕ) (n : Names) → readKex t strictAgreed p ≡ done n → Known t n

@@ -10,9 +10,8 @@ use lib.ListN.{length, take, replicate, length-append}
 use lib.Seq.{length-take-le}
 use Rattle.answer.specs.Answer.{Out, refused, done, _>>=_}
 use Rattle.answer.specs.declared.Refusal.{Refusal}
-use Rattle.answer.proofs.Laws.{split}
+use Rattle.answer.proofs.Laws.{No, split}
 use Rattle.wire.specs.Fields.{At, here}
-use Rattle.wire.proofs.FieldLaws.{No}
 use Rattle.names.specs.declared.Kind.the-variants.{Kex, Key, Certificate, Cipher, Mac, Compression}
 use Rattle.choice.specs.declared.Side.{Side}
 use Rattle.choice.specs.Rows.{spellsName}

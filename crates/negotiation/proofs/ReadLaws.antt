@@ -84,8 +84,8 @@ module _ (t : Tables) (v : valid t ≡ true) (strictAgreed : Bool) where
 
   abbrev compressing : List ℕ → List ℕ → List ℕ → List ℕ → List ℕ → List (List ℕ) → List (List ℕ) → At → Out Names
   compressing kex key cipher clientMac serverMac kexes keys c =
-      offer c >>= λ x. settle 14 (chosen (t .side) (compressionList t) (x .0)) >>= λ clientCompression.
-      offer (x .1) >>= λ y. settle 14 (chosen (t .side) (compressionList t) (y .0)) >>= λ serverCompression.
+      offer c >>= λ x. settle 14 (c .at) (chosen (t .side) (compressionList t) (x .0)) >>= λ clientCompression.
+      offer (x .1) >>= λ y. settle 14 (x .1 .at) (chosen (t .side) (compressionList t) (y .0)) >>= λ serverCompression.
       ending
       (record {
         kex = kex;
@@ -100,19 +100,19 @@ module _ (t : Tables) (v : valid t ≡ true) (strictAgreed : Bool) where
 
   abbrev macing : List ℕ → List ℕ → List ℕ → List (List ℕ) → List (List ℕ) → At → Out Names
   macing kex key cipher kexes keys c =
-      offer c >>= λ x. settleMac cipher (chosen (t .side) (macList t) (x .0)) >>= λ clientMac.
-      offer (x .1) >>= λ y. settleMac cipher (chosen (t .side) (macList t) (y .0)) >>= λ serverMac.
+      offer c >>= λ x. settleMac cipher (c .at) (chosen (t .side) (macList t) (x .0)) >>= λ clientMac.
+      offer (x .1) >>= λ y. settleMac cipher (x .1 .at) (chosen (t .side) (macList t) (y .0)) >>= λ serverMac.
       compressing kex key cipher clientMac serverMac kexes keys (y .1)
 
   abbrev keying : List ℕ → List (List ℕ) → At → Out Names
   keying kex kexes c =
-      offer c >>= λ x. settle 11 (chosen (t .side) (keyList t) (x .0)) >>= λ key.
-      offer (x .1) >>= λ y. settle 12 (chosen (t .side) (cipherList t) (y .0)) >>= λ cipher.
+      offer c >>= λ x. settle 11 (c .at) (chosen (t .side) (keyList t) (x .0)) >>= λ key.
+      offer (x .1) >>= λ y. settle 12 (x .1 .at) (chosen (t .side) (cipherList t) (y .0)) >>= λ cipher.
       string (y .1) >>= λ o. macing kex key cipher kexes (x .0) (o .1)
 
   abbrev listing : At → Out Names
   listing c =
-      offer c >>= λ x. settle 10 (chosen (t .side) (spelledRows (kexChosen t)) (x .0)) >>= λ kex. keying kex (x .0) (x .1)
+      offer c >>= λ x. settle 10 (c .at) (chosen (t .side) (spelledRows (kexChosen t)) (x .0)) >>= λ kex. keying kex (x .0) (x .1)
 
   ended : (k : Rows) → Kinds k → (kexes keys : List (List ℕ))
       → k .guessed ≡ (bothFirst (spelledRows (kexChosen t)) kexes && bothFirst (keyList t) keys) → k .strict ≡ strict t strictAgreed kexes → (c : At)

@@ -6,7 +6,7 @@ use mathlib.Core.Option.{Option, some, none}
 use Prim.Native.Nat.{ℕ}
 use lib.Dec.{leb, eqb}
 use lib.ListN.{length, getD}
-use Rattle.answer.specs.Answer.{Out, refused, done, refuse, guard, pick, _>>=_}
+use Rattle.answer.specs.Answer.{Out, refused, done, refuseAt, guard, pick, _>>=_}
 use Rattle.text.specs.Same.{same}
 use Rattle.text.specs.Literal.{bytes}
 use Rattle.wire.specs.Fields.{At, Run, here, byte, word, string, end}
@@ -29,10 +29,11 @@ use Rattle.negotiation.specs.Written.{keyList, cipherList, macList, comp
 abbrev pub mostKexInit : ℕ
 mostKexInit = 262176
 
--- a category that needs a shared name: without one, its number (docs/DIFFERENCES.md, R11: a list may be empty)
-abbrev pub settle : ℕ → Option (List ℕ) → Out (List ℕ)
-settle n none = refuse n
-settle n (some name) = done name
+-- a category that needs a shared name: without one, its number, and where the peer's list stands (docs/DIFFERENCES.md, R11:
+-- a list may be empty)
+unfoldable pub settle : ℕ → ℕ → Option (List ℕ) → Out (List ℕ)
+settle n i none = refuseAt n i
+settle n i (some name) = done name
 
 -- a name's number in its kind; a chosen name always has one, in the own list (`all-known`, proofs/KnownLaws.antt)
 abbrev pub orZero : Option ℕ → ℕ
@@ -53,9 +54,9 @@ noMac = bytes "none"
 
 -- "MAC: no shared name gives `none` if the cipher needs no MAC, else 13; a first shared name `none` under a cipher that
 -- needs one gives 13, even if another name is shared." (docs/DIFFERENCES.md, R12)
-unfoldable pub settleMac : List ℕ → Option (List ℕ) → Out (List ℕ)
-settleMac cipher none = pick (needsMac cipher) (refuse 13) (done noMac)
-settleMac cipher (some mac) = pick (needsMac cipher && same mac noMac) (refuse 13) (done mac)
+unfoldable pub settleMac : List ℕ → ℕ → Option (List ℕ) → Out (List ℕ)
+settleMac cipher i none = pick (needsMac cipher) (refuseAt 13 i) (done noMac)
+settleMac cipher i (some mac) = pick (needsMac cipher && same mac noMac) (refuseAt 13 i) (done mac)
 
 -- "Strict: own preferences hold the own-side strict name and the peer's kex list holds the other; or the caller's
 -- strict-rekey flag."
@@ -97,27 +98,28 @@ settled c ignore isStrict =
       flags = record { «host_key_is_certificate» = isCertificate (c .key); «ignore_guessed» = ignore; «strict_kex» = isStrict };
     }
 
--- "Fields and choices alternate" (docs/DIFFERENCES.md, C1, R8, R9, R10, R23, R24)
+-- "Fields and choices alternate" (docs/DIFFERENCES.md, C1, R8, R9, R10, R23, R24). A choice is refused where its list stands
+-- (document 02, No. 6); the first list stands at 17.
 unfoldable pub readKex : Tables → Bool → List ℕ → Out Names
 readKex t strictAgreed p = do
   _ ← guard 9 (valid t)
   _ ← guard 1 (leb (length p) mostKexInit)
   _ ← guard 6 (leb 17 (length p))
   (kexes, c₁) ← offer (here p 17)
-  kex ← settle 10 (chosen (t .side) (spelledRows (kexChosen t)) kexes)
+  kex ← settle 10 17 (chosen (t .side) (spelledRows (kexChosen t)) kexes)
   (keys, c₂) ← offer c₁
-  key ← settle 11 (chosen (t .side) (keyList t) keys)
+  key ← settle 11 (c₁ .at) (chosen (t .side) (keyList t) keys)
   (ciphers, c₃) ← offer c₂
-  cipher ← settle 12 (chosen (t .side) (cipherList t) ciphers)
+  cipher ← settle 12 (c₂ .at) (chosen (t .side) (cipherList t) ciphers)
   (_, c₄) ← string c₃
   (macs, c₅) ← offer c₄
-  clientMac ← settleMac cipher (chosen (t .side) (macList t) macs)
+  clientMac ← settleMac cipher (c₄ .at) (chosen (t .side) (macList t) macs)
   (macs′, c₆) ← offer c₅
-  serverMac ← settleMac cipher (chosen (t .side) (macList t) macs′)
+  serverMac ← settleMac cipher (c₅ .at) (chosen (t .side) (macList t) macs′)
   (compressions, c₇) ← offer c₆
-  clientCompression ← settle 14 (chosen (t .side) (compressionList t) compressions)
+  clientCompression ← settle 14 (c₆ .at) (chosen (t .side) (compressionList t) compressions)
   (compressions′, c₈) ← offer c₇
-  serverCompression ← settle 14 (chosen (t .side) (compressionList t) compressions′)
+  serverCompression ← settle 14 (c₇ .at) (chosen (t .side) (compressionList t) compressions′)
   (_, c₉) ← string c₈
   (_, c₁₀) ← string c₉
   (follows, c₁₁) ← byte c₁₀

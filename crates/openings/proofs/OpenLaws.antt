@@ -63,8 +63,7 @@ module _ (g : GotOpen) (r : Open) where
   unfolding openOf
   message-open m e h = rw (h, e)
 
-  pub refused-open : (x : Refusal) → g ≡ NotOpened x → r ≡ openOf (refused (record { number = x .number }))
-      → r ≡ openOf (gotOpen g)
+  pub refused-open : (x : Refusal) → g ≡ NotOpened x → r ≡ openOf (refused x) → r ≡ openOf (gotOpen g)
   unfolding openOf
   refused-open x e h = rw (h, e)
 

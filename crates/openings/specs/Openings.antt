@@ -23,6 +23,7 @@ openWith typ m text port originator originatorPort rest =
     record {
       what = 1;
       number = 0;
+      offset = 0;
       typ = typ;
       «recipient_channel» = m .«recipient_channel»;
       «recipient_window_size» = m .«recipient_window_size»;
@@ -62,6 +63,7 @@ openOf (refused r) =
     record {
       what = 0;
       number = r .number;
+      offset = r .offset;
       typ = 0;
       «recipient_channel» = 0;
       «recipient_window_size» = 0;
@@ -82,6 +84,7 @@ confirmationOf (refused r) =
     record {
       what = 0;
       number = r .number;
+      offset = r .offset;
       «recipient_channel» = 0;
       «sender_channel» = 0;
       «initial_window_size» = 0;
@@ -91,6 +94,7 @@ confirmationOf (done m) =
     record {
       what = 1;
       number = 0;
+      offset = 0;
       «recipient_channel» = m .«recipient_channel»;
       «sender_channel» = m .«sender_channel»;
       «initial_window_size» = m .«initial_window_size»;

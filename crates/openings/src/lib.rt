@@ -1,9 +1,10 @@
 // Channel opening as it crosses the border: an opening by its type, and a confirmation.
 ghost use mathlib.Core.Path.{_≡_};
-ghost use Rattle.answer.specs.Answer.{refuse};
+ghost use Rattle.answer.specs.Answer.{refused};
 ghost use Rattle.replies.specs.Answers.{gotConfirmation};
 ghost use Rattle.channels.specs.Open.{gotOpen};
 ghost use Rattle.openings.specs.Openings.{openOf, openWith, tcpOpen, textOpen, messageOf, confirmationOf};
+use answer::Refusal;
 use channels::GotOpen;
 use channels::OpenChannelMessage;
 use layouts::ChannelType;
@@ -17,6 +18,7 @@ use wire::answers::Place;
 pub struct Open {
     pub what: u8,
     pub number: u8,
+    pub offset: usize,
     pub typ: u8,
     pub recipient_channel: u32,
     pub recipient_window_size: u32,
@@ -35,6 +37,7 @@ pub struct Open {
 pub struct Confirmation {
     pub what: u8,
     pub number: u8,
+    pub offset: usize,
     pub recipient_channel: u32,
     pub sender_channel: u32,
     pub initial_window_size: u32,
@@ -57,6 +60,7 @@ fn open_with(
     Open {
         what: DONE,
         number: 0,
+        offset: 0,
         typ,
         recipient_channel: m.recipient_channel,
         recipient_window_size: m.recipient_window_size,
@@ -120,12 +124,13 @@ fn message_of(typ: ChannelType, m: OpenChannelMessage) -> Open
     }
 }
 
-fn not_opened(number: u8) -> Open
-    ensures { λ r. ⌜ r ≡ openOf (refuse number) ⌝ }
+fn not_opened(r: Refusal) -> Open
+    ensures { λ o. ⌜ o ≡ openOf (refused r) ⌝ }
 {
     Open {
         what: REFUSED,
-        number,
+        number: r.number,
+        offset: r.offset,
         typ: 0,
         recipient_channel: 0,
         recipient_window_size: 0,
@@ -149,7 +154,7 @@ pub fn open_of(g: GotOpen) -> Open
             let typ = m.typ;
             message_of(typ, m)
         }
-        GotOpen::Refused(r) => not_opened(r.number),
+        GotOpen::Refused(r) => not_opened(r),
     }
 }
 
@@ -160,6 +165,7 @@ pub fn confirmation_of(g: GotConfirmation) -> Confirmation
         GotConfirmation::Confirmed(m) => Confirmation {
             what: DONE,
             number: 0,
+            offset: 0,
             recipient_channel: m.recipient_channel,
             sender_channel: m.sender_channel,
             initial_window_size: m.initial_window_size,
@@ -168,6 +174,7 @@ pub fn confirmation_of(g: GotConfirmation) -> Confirmation
         GotConfirmation::Refused(r) => Confirmation {
             what: REFUSED,
             number: r.number,
+            offset: r.offset,
             recipient_channel: 0,
             sender_channel: 0,
             initial_window_size: 0,

@@ -10,7 +10,7 @@ use lib.Dec.{leb, ltb, eqb}
 use lib.ListN.{length, take, drop, getD, List·getD-eq-default}
 use Rattle.answer.specs.Answer.{Out, refused, done, pick, _>>=_}
 use Rattle.answer.specs.declared.Refusal.{Refusal}
-use Rattle.answer.proofs.Laws.{split, un-done, not-both}
+use Rattle.answer.proofs.Laws.{NoAt, split, un-done, not-both}
 use Rattle.wire.specs.declared.answers.Cursor.{Cursor}
 use Rattle.wire.specs.declared.answers.Place.{Place}
 use Rattle.wire.specs.declared.answers.GotText.{GotText}
@@ -20,7 +20,6 @@ use Rattle.commas.specs.Cut.{cut}
 use Rattle.namelist.specs.Judged.{nameList}
 use Rattle.wire.specs.Shown.{part}
 use Rattle.wire.specs.Answers.{gotText, runAt, whyNoText}
-use Rattle.wire.proofs.FieldLaws.{No}
 use Rattle.wire.proofs.RunLaws.{Inside, run-inside, text-order, text-within, text-bytes}
 use Rattle.namelist.proofs.JudgeLaws.{list-inside}
 use Rattle.names.specs.declared.Flag.{Flag}
@@ -66,48 +65,48 @@ module _ (n : ℕ) (f : Flag) (told : flag f ≡ needsMac n) where
   unfolding macRule
   rule-free b e h = rw (← entry-is needMac n b (rw e at told), h)
 
-  pub rule-outside : (q : Refusal) → f ≡ NoFlag q → Optional ≡ macRule n
+  pub rule-outside : (m : ℕ) → f ≡ NoFlag m → Optional ≡ macRule n
   unfolding macRule
-  rule-outside q e = rw (← entry-outside needMac n q (rw e at told))
+  rule-outside m e = rw (← entry-outside needMac n _ (rw e at told))
 
 pub ruleset rule-laws = (rule-protected, rule-free, rule-outside)
 
 -- a choice under a rule
-module _ (rule : Rule) (n : ℕ) where
-  pub lack-needed : (q : Refusal) → rule ≡ Needed → No n q → refused q ≡ ruled rule n none
+module _ (rule : Rule) (q : Refusal) where
+  pub lack-needed : rule ≡ Needed → refused q ≡ ruled rule q none
   unfolding ruled
-  lack-needed q e f = rw (e, f)
+  lack-needed e = rw e
 
-  pub lack-protected : (q : Refusal) → rule ≡ Protected → No n q → refused q ≡ ruled rule n none
+  pub lack-protected : rule ≡ Protected → refused q ≡ ruled rule q none
   unfolding ruled
-  lack-protected q e f = rw (e, f)
+  lack-protected e = rw e
 
-  pub lack-optional : rule ≡ Optional → done noneRow ≡ ruled rule n none
+  pub lack-optional : rule ≡ Optional → done noneRow ≡ ruled rule q none
   unfolding ruled
   lack-optional e = rw e
 
   module _ (r : ℕ) where
-    pub share-needed : rule ≡ Needed → done r ≡ ruled rule n (some r)
+    pub share-needed : rule ≡ Needed → done r ≡ ruled rule q (some r)
     unfolding ruled
     share-needed e = rw e
 
-    pub share-optional : rule ≡ Optional → done r ≡ ruled rule n (some r)
+    pub share-optional : rule ≡ Optional → done r ≡ ruled rule q (some r)
     unfolding ruled
     share-optional e = rw e
 
-    pub share-none : (q : Refusal) → rule ≡ Protected → r ≡ noneRow → No n q → refused q ≡ ruled rule n (some r)
+    pub share-none : rule ≡ Protected → r ≡ noneRow → refused q ≡ ruled rule q (some r)
     unfolding ruled
-    share-none q e h f = rw (e, eq-eqb r noneRow h, f)
+    share-none e h = rw (e, eq-eqb r noneRow h)
 
-    pub share-mac : rule ≡ Protected → (r ≡ noneRow → ⊥) → done r ≡ ruled rule n (some r)
+    pub share-mac : rule ≡ Protected → (r ≡ noneRow → ⊥) → done r ≡ ruled rule q (some r)
     unfolding ruled
     share-mac e h = rw (e, ne-eqb r noneRow h)
 
   module _ (m : Out ℕ) (k : Chosen) where
-    pub on-row : (r : ℕ) → k ≡ ChosenRow r → m ≡ ruled rule n (some r) → m ≡ ruled rule n (chose k)
+    pub on-row : (r : ℕ) → k ≡ ChosenRow r → m ≡ ruled rule q (some r) → m ≡ ruled rule q (chose k)
     on-row r e f = rw e f
 
-    pub on-nothing : k ≡ Nothing → m ≡ ruled rule n none → m ≡ ruled rule n (chose k)
+    pub on-nothing : k ≡ Nothing → m ≡ ruled rule q none → m ≡ ruled rule q (chose k)
     on-nothing e f = rw e f
 
 pub ruleset ruled-laws =
@@ -141,15 +140,15 @@ pub ruleset first-laws = (first-asked, first-unasked)
 
 module _ (spells : ℕ → List ℕ → Bool) where
   -- the choice from a list's bytes
-  module _ (side : Side) (rule : Rule) (n : ℕ) (own list : List ℕ) (k : Chosen) (told : chose k ≡ chosenRow spells side own (cut list))
-      (u : Ruling) (said : ruling u ≡ ruled rule n (chose k)) (d : ℕ) where
-    pub from-row : (r : ℕ) (f : Bool) → u ≡ Ruled r → f ≡ (guessed n && firstBoth spells own (cut list)) → done (r, f, d) ≡ pickedFrom spells side rule n own list d
+  module _ (side : Side) (rule : Rule) (q : Refusal) (own list : List ℕ) (k : Chosen) (told : chose k ≡ chosenRow spells side own (cut list))
+      (u : Ruling) (said : ruling u ≡ ruled rule q (chose k)) (d : ℕ) where
+    pub from-row : (r : ℕ) (f : Bool) → u ≡ Ruled r → f ≡ (guessed (q .number) && firstBoth spells own (cut list)) → done (r, f, d) ≡ pickedFrom spells side rule q own list d
     unfolding pickedFrom _>>=_
     from-row r f e g = rw (← told, ← said, e, g)
 
-    pub from-none : (q : Refusal) → u ≡ Unruled q → refused q ≡ pickedFrom spells side rule n own list d
+    pub from-none : (x : Refusal) → u ≡ Unruled x → refused x ≡ pickedFrom spells side rule q own list d
     unfolding pickedFrom _>>=_
-    from-none q e = rw (← told, ← said, e)
+    from-none x e = rw (← told, ← said, e)
 
   -- the same with the cursor, or with what is left from it
   abbrev left : List ℕ → Out (ℕ × Bool × ℕ) → Out (ℕ × Bool × At)
@@ -165,10 +164,10 @@ module _ (spells : ℕ → List ℕ → Bool) where
   left-bind p (refused q) f d = refl
   left-bind p (done r) f d = refl
 
-  left-from : (side : Side) (rule : Rule) (n : ℕ) (own list p : List ℕ) (d : ℕ)
-      → left p (pickedFrom spells side rule n own list d) ≡ pickedFrom spells side rule n own list (here p d)
+  left-from : (side : Side) (rule : Rule) (q : Refusal) (own list p : List ℕ) (d : ℕ)
+      → left p (pickedFrom spells side rule q own list d) ≡ pickedFrom spells side rule q own list (here p d)
   unfolding pickedFrom
-  left-from side rule n own list p d = left-bind p (ruled rule n (chosenRow spells side own (cut list))) (guessed n && firstBoth spells own (cut list)) d
+  left-from side rule q own list p d = left-bind p (ruled rule q (chosenRow spells side own (cut list))) (guessed (q .number) && firstBoth spells own (cut list)) d
 
   -- the list and the choice
   module _ (side : Side) (rule : Rule) (n : ℕ) (own p : List ℕ) (i : ℕ) (t : GotText) (told : gotText p t ≡ nameList (here p i)) where
@@ -177,13 +176,14 @@ module _ (spells : ℕ → List ℕ → Bool) where
     pick-stop x q e f = rw (← told, f, e)
 
     module _ (place : Place) (c : Cursor) (e : t ≡ Text place c) where
-      pub pick-at : (m : Picked) → pickedAt m ≡ pickedFrom spells side rule n own (take (c .at - place .start) (drop (place .start) p)) (c .at)
+      pub pick-at : (q : Refusal) → NoAt n i q → (m : Picked)
+          → pickedAt m ≡ pickedFrom spells side rule q own (take (c .at - place .start) (drop (place .start) p)) (c .at)
           → pickedOf p m ≡ picked spells side rule n own (here p i)
       unfolding picked _>>=_
-      pick-at m f =
+      pick-at q z m f =
           let h = list-inside p i t place c told e in
           let l : c .at - place .start ≡ place .len = omega arith in
-          rw (← told, e, left-picked p m, f, l) (left-from side rule n own (part place p) p (c .at))
+          rw (← told, e, left-picked p m, f, l, ← z) (left-from side rule q own (part place p) p (c .at))
 
   -- a row's name in a list
   module _ (row : ℕ) (p : List ℕ) (i : ℕ) (t : GotText) (told : gotText p t ≡ run (here p i)) where

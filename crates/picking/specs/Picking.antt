@@ -6,7 +6,7 @@ use mathlib.Core.Option.{Option, some, none}
 use Prim.Native.Nat.{ℕ}
 use lib.Dec.{leb, eqb}
 use lib.ListN.{getD}
-use Rattle.answer.specs.Answer.{Out, refused, done, refuse, pick, _>>=_}
+use Rattle.answer.specs.Answer.{Out, refused, done, noRefusal, pick, _>>=_}
 use Rattle.answer.specs.declared.Refusal.{Refusal}
 use Rattle.wire.specs.Fields.{At, Run, here, run}
 use Rattle.commas.specs.Cut.{cut}
@@ -26,14 +26,14 @@ use Rattle.picking.specs.declared.rules.Ruling.the-variants.{Row as Rule
 abbrev pub noneRow : ℕ
 noneRow = firstRow Mac
 
--- a choice under a rule: a shared name is needed; needed, and not `none`; or its lack is `none`
-unfoldable pub ruled : Rule → ℕ → Option ℕ → Out ℕ
-ruled Needed n none = refuse n
-ruled Needed n (some r) = done r
-ruled Protected n none = refuse n
-ruled Protected n (some r) = pick (eqb r noneRow) (refuse n) (done r)
-ruled Optional n none = done noneRow
-ruled Optional n (some r) = done r
+-- a choice under a rule: a shared name is needed, else q; needed, and not `none`; or its lack is `none`
+unfoldable pub ruled : Rule → Refusal → Option ℕ → Out ℕ
+ruled Needed q none = refused q
+ruled Needed q (some r) = done r
+ruled Protected q none = refused q
+ruled Protected q (some r) = pick (eqb r noneRow) (refused q) (done r)
+ruled Optional q none = done noneRow
+ruled Optional q (some r) = done r
 
 -- what the MAC choices under a cipher are ruled by
 unfoldable pub macRule : ℕ → Rule
@@ -45,16 +45,16 @@ guessed n = leb n 11
 
 module _ (spells : ℕ → List ℕ → Bool) where
   -- the choice from a list's bytes: the row, and whether it is both first
-  unfoldable pub pickedFrom : {A : Type 0} → Side → Rule → ℕ → List ℕ → List ℕ → A → Out (ℕ × Bool × A)
-  pickedFrom side rule n own list d = do
-    r ← ruled rule n (chosenRow spells side own (cut list))
-    done (r, guessed n && firstBoth spells own (cut list), d)
+  unfoldable pub pickedFrom : {A : Type 0} → Side → Rule → Refusal → List ℕ → List ℕ → A → Out (ℕ × Bool × A)
+  pickedFrom side rule q own list d = do
+    r ← ruled rule q (chosenRow spells side own (cut list))
+    done (r, guessed (q .number) && firstBoth spells own (cut list), d)
 
-  -- one list and the choice from it, and what is left
+  -- one list and the choice from it, which is refused where the list stands, and what is left
   unfoldable pub picked : Side → Rule → ℕ → List ℕ → At → Out (ℕ × Bool × At)
   picked side rule n own c = do
     (t, d) ← nameList c
-    pickedFrom side rule n own (t .bytes) d
+    pickedFrom side rule (record { number = n; offset = c .at }) own (t .bytes) d
 
   -- a row's name stands in the list at c
   abbrev pub standsAmong : ℕ → Out (Run × At) → Bool
@@ -74,7 +74,7 @@ pickedAt (Row r f c) = done (r, f, c .at)
 pickedAt (Unpicked q) = refused q
 
 abbrev pub whyUnpicked : Picked → Refusal
-whyUnpicked (Row r f c) = record { number = 0 }
+whyUnpicked (Row r f c) = noRefusal
 whyUnpicked (Unpicked q) = q
 
 -- what a `Ruling` means

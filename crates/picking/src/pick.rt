@@ -13,6 +13,8 @@ use crate::Rule;
 use crate::rules::Ruling;
 use crate::rules::rule_on;
 use answer::NO_KEY;
+use answer::Refusal;
+use answer::refuse_at;
 use choice::Chosen;
 use choice::Side;
 use choice::both_first;
@@ -38,29 +40,30 @@ fn first_of(
     false
 }
 
-// The choice from a list's bytes. The refusal carries `number` where the rule asks for a shared name and there is none.
+// The choice from a list's bytes; `no` is the refusal where the rule asks for a shared name and there is none.
 fn pick_from(
     spellings: &[u8],
     starts: &[u16],
     lengths: &[u8],
     side: Side,
     rule: Rule,
-    number: u8,
+    no: Refusal,
     own: &[u8],
     list: &[u8],
     d: Cursor,
 ) -> Picked
-    ensures { λ r. ⌜ pickedAt r ≡ pickedFrom (spellsIn (now (spellings .entry)) (now (starts .entry)) (now (lengths .entry))) side rule number (now (own .entry)) (now (list .entry)) (d .at) ⌝ }
+    ensures { λ r. ⌜ pickedAt r ≡ pickedFrom (spellsIn (now (spellings .entry)) (now (starts .entry)) (now (lengths .entry))) side rule no (now (own .entry)) (now (list .entry)) (d .at) ⌝ }
 {
     let chosen = choose(spellings, starts, lengths, side, own, list);
-    let first = first_of(spellings, starts, lengths, number, own, list);
-    let ruling = rule_on(rule, number, chosen);
+    let first = first_of(spellings, starts, lengths, no.number, own, list);
+    let ruling = rule_on(rule, no, chosen);
     match ruling {
         Ruling::Row(row) => Picked::Row(row, first, d),
         Ruling::Refused(r) => Picked::Refused(r),
     }
 }
 
+// The refusal carries `number` and where the list starts.
 pub fn pick_name(
     spellings: &[u8],
     starts: &[u16],
@@ -86,7 +89,7 @@ pub fn pick_name(
         lengths,
         side,
         rule,
-        number,
+        refuse_at(number, c.at),
         own,
         &p[start..end],
         d,

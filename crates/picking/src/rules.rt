@@ -8,7 +8,6 @@ ghost use Rattle.choice.specs.Rows.{chose};
 ghost use Rattle.picking.specs.Picking.{ruled, ruling, macRule};
 use crate::Rule;
 use answer::Refusal;
-use answer::refuse;
 use choice::Chosen;
 use names::CipherId;
 use names::FIRST_MAC;
@@ -37,24 +36,24 @@ pub fn mac_rule(cipher: CipherId) -> Rule
     Rule::Optional
 }
 
-fn lacking(rule: Rule, number: u8) -> Ruling
-    ensures { λ r. ⌜ ruling r ≡ ruled rule number none ⌝ }
+fn lacking(rule: Rule, no: Refusal) -> Ruling
+    ensures { λ r. ⌜ ruling r ≡ ruled rule no none ⌝ }
 {
     match rule {
-        Rule::Needed => Ruling::Refused(refuse(number)),
-        Rule::Protected => Ruling::Refused(refuse(number)),
+        Rule::Needed => Ruling::Refused(no),
+        Rule::Protected => Ruling::Refused(no),
         Rule::Optional => Ruling::Row(NONE_ROW),
     }
 }
 
-fn shared(rule: Rule, number: u8, row: u8) -> Ruling
-    ensures { λ r. ⌜ ruling r ≡ ruled rule number (some row) ⌝ }
+fn shared(rule: Rule, no: Refusal, row: u8) -> Ruling
+    ensures { λ r. ⌜ ruling r ≡ ruled rule no (some row) ⌝ }
 {
     match rule {
         Rule::Needed => Ruling::Row(row),
         Rule::Protected => {
             if row == NONE_ROW {
-                return Ruling::Refused(refuse(number));
+                return Ruling::Refused(no);
             }
             Ruling::Row(row)
         }
@@ -62,11 +61,12 @@ fn shared(rule: Rule, number: u8, row: u8) -> Ruling
     }
 }
 
-pub fn rule_on(rule: Rule, number: u8, chosen: Chosen) -> Ruling
-    ensures { λ r. ⌜ ruling r ≡ ruled rule number (chose chosen) ⌝ }
+// `no` is the refusal where the rule asks for a shared name and there is none.
+pub fn rule_on(rule: Rule, no: Refusal, chosen: Chosen) -> Ruling
+    ensures { λ r. ⌜ ruling r ≡ ruled rule no (chose chosen) ⌝ }
 {
     match chosen {
-        Chosen::Row(row) => shared(rule, number, row),
-        Chosen::Nothing => lacking(rule, number),
+        Chosen::Row(row) => shared(rule, no, row),
+        Chosen::Nothing => lacking(rule, no),
     }
 }

@@ -10,8 +10,7 @@ use borrow.Author.Tests.{lt-ltb, le-ltb, ltb-true, ltb-false}
 use lib.Dec.{ltb}
 use lib.ListN.{length, take, getD, set, length-append}
 use lib.Seq.{sets, take-suc, length-take-le}
-use Rattle.answer.specs.declared.Refusal.{Refusal}
-use Rattle.answer.specs.Answer.{refused, done, _>>=_}
+use Rattle.answer.specs.Answer.{done, _>>=_, refuse}
 use Rattle.answer.proofs.Laws.{split}
 use Rattle.put.specs.Written.{written, buffer, word, string}
 use Rattle.put.proofs.PutLaws.{sets-append, written-fits, written-full, buffer-fits, buffer-full, word-length, string-short, string-long}
@@ -53,8 +52,8 @@ module _ (out x : List ℕ) (at n : ℕ) (full : Bool) (told : full ≡ ltb (len
   within : full ≡ false → at + length x ≤ length out
   within e = rw (← sized) (room out at n full told e)
 
-  pub no-room : (r : Refusal) → full ≡ true → r ≡ record { number = 8 } → refused r ≡ written out at (done x)
-  no-room r e k = rw (k, written-full out at x (over e))
+  pub no-room : full ≡ true → refuse 8 ≡ written out at (done x)
+  no-room e = rw (written-full out at x (over e))
 
   pub not-changed : full ≡ true → out ≡ buffer out at (done x)
   not-changed e = rw (buffer-full out at x (over e))
@@ -71,9 +70,9 @@ four n = sym (word-length n)
 
 -- a string that is too long: refused and not changed
 module _ (out x : List ℕ) (at : ℕ) (long : 4294967295 < length x) where
-  pub too-long : (r : Refusal) → r ≡ record { number = 1 } → refused r ≡ written out at (string x)
+  pub too-long : refuse 1 ≡ written out at (string x)
   unfolding written _>>=_
-  too-long r k = rw (k, string-long x long)
+  too-long = rw (string-long x long)
 
   pub too-long-kept : out ≡ buffer out at (string x)
   unfolding buffer
@@ -85,8 +84,8 @@ string-size x = rw (length-append, word-length)
 
 -- the four ends for any other string: its length is stored first, and its bytes from `body` on
 module _ (out x : List ℕ) (at : ℕ) (full : Bool) (short : length x ≤ 4294967295) (told : full ≡ ltb (length out) (at + (4 + length x))) where
-  pub string-no-room : (r : Refusal) → full ≡ true → r ≡ record { number = 8 } → refused r ≡ written out at (string x)
-  string-no-room r e k = rw (string-short x short) (no-room out (word (length x) ++ x) at (4 + length x) full told (string-size x) r e k)
+  pub string-no-room : full ≡ true → refuse 8 ≡ written out at (string x)
+  string-no-room e = rw (string-short x short) (no-room out (word (length x) ++ x) at (4 + length x) full told (string-size x) e)
 
   pub string-kept : full ≡ true → out ≡ buffer out at (string x)
   string-kept e = rw (string-short x short) (not-changed out (word (length x) ++ x) at (4 + length x) full told (string-size x) e)

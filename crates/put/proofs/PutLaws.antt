@@ -1,5 +1,5 @@
 -- Laws of what a writer answers and of what the lent buffer then holds. Assumes nothing.
-use mathlib.Core.Path.{_≡_, refl, _∙_}
+use mathlib.Core.Path.{_≡_, refl, ap, _∙_}
 use mathlib.Core.List.{List, [], _∷_, _++_}
 use Prim.Native.Nat.{ℕ, zero, suc, _+_, _*_, _/_, _%_, _≤_, _<_}
 use native.Mathlib.Nat.{add-zero, add-suc, suc-add, add-assoc}
@@ -10,7 +10,7 @@ use lib.ListN.{length, take, drop, getD, set, length-append}
 use lib.Seq.{sets, sets-eq, length-sets}
 use Rattle.answer.specs.declared.Refusal.{Refusal}
 use Rattle.answer.specs.Answer.{Out, refused, done, refuse, _>>=_}
-use Rattle.answer.proofs.Laws.{split, pass, stop}
+use Rattle.answer.proofs.Laws.{split, pass, stop, un-refused}
 use Rattle.put.specs.Written.{written, buffer, put, word, string}
 use Rattle.put.specs.declared.Put.{Put}
 use Rattle.put.specs.declared.Put.the-variants.{Next, Refused}
@@ -109,7 +109,7 @@ pub put-unique : (a b : Put) → put a ≡ put b → a ≡ b
 put-unique (Next m) (Next n) e = cc
 put-unique (Next m) (Refused r) e = cc
 put-unique (Refused r) (Next n) e = cc
-put-unique (Refused q) (Refused r) e = cc
+put-unique (Refused q) (Refused r) e = ap Refused (ap (λ (z : Refusal). z .number) (un-refused e))
 
 module _ (p : Put) (out : List ℕ) (at : ℕ) (x : List ℕ) (told : put p ≡ written out at (done x)) where
   -- so where there is room, a put has one answer only ..
@@ -117,5 +117,5 @@ module _ (p : Put) (out : List ℕ) (at : ℕ) (x : List ℕ) (told : put p ≡ 
   put-fits h = put-unique p (Next (at + length x)) (told ∙ written-fits out at x h)
 
   -- .. and where there is none, one too
-  pub put-full : length out < at + length x → p ≡ Refused (record { number = 8 })
-  put-full h = put-unique p (Refused (record { number = 8 })) (told ∙ written-full out at x h)
+  pub put-full : length out < at + length x → p ≡ Refused 8
+  put-full h = put-unique p (Refused 8) (told ∙ written-full out at x h)

@@ -4,8 +4,7 @@ use mathlib.Core.List.{List}
 use Prim.Native.Nat.{ℕ, _+_, _≤_, _<_}
 use lib.ListN.{length}
 use lib.Seq.{sets}
-use Rattle.answer.specs.declared.Refusal.{Refusal}
-use Rattle.answer.specs.Answer.{Out, refused, done, refuse, _>>=_}
+use Rattle.answer.specs.Answer.{Out, done, refuse, _>>=_}
 use Rattle.put.specs.Written.{written, buffer}
 use Rattle.put.proofs.PutLaws.{written-fits, written-full, buffer-fits, buffer-full}
 
@@ -18,13 +17,12 @@ same-put out at p out′ e h = rw e at h
 
 -- what is refused, what has no room, and what was stored
 module _ (out : List ℕ) (at : ℕ) (what : Out (List ℕ)) where
-  pub refused-put : (r : Refusal) (n : ℕ) → what ≡ refuse n → r ≡ record { number = n } → Puts out at what (refused r) out
+  pub refused-put : (n : ℕ) → what ≡ refuse n → Puts out at what (refuse n) out
   unfolding written buffer _>>=_
-  refused-put r n e q = rw (e, q) (refl, refl)
+  refused-put n e = rw e (refl, refl)
 
-  pub full-put : (x : List ℕ) (r : Refusal) → what ≡ done x → length out < at + length x → r ≡ record { number = 8 }
-      → Puts out at what (refused r) out
-  full-put x r e h q = rw (e, q) (rw (written-full out at x h), rw (buffer-full out at x h))
+  pub full-put : (x : List ℕ) → what ≡ done x → length out < at + length x → Puts out at what (refuse 8) out
+  full-put x e h = rw e (rw (written-full out at x h), rw (buffer-full out at x h))
 
   pub stored-put : (x out′ : List ℕ) (r : ℕ) → what ≡ done x → at + length x ≤ length out → (r ≡ at + length x) × (out′ ≡ sets out at x)
       → Puts out at what (done r) out′

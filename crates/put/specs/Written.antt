@@ -5,7 +5,7 @@ use Prim.Native.Nat.{ℕ, _+_, _/_, _%_}
 use lib.Dec.{leb}
 use lib.ListN.{length}
 use lib.Seq.{sets}
-use Rattle.answer.specs.Answer.{Out, refused, done, guard, pick, _>>=_}
+use Rattle.answer.specs.Answer.{Out, refused, done, refuse, guard, pick, _>>=_}
 use Rattle.put.specs.declared.Put.{Put}
 use Rattle.put.specs.declared.Put.the-variants.{Next, Refused}
 
@@ -25,7 +25,7 @@ buffer out at (done x) = pick (leb (at + length x) (length out)) (sets out at x)
 -- what a `Put` means
 abbrev pub put : Put → Out ℕ
 put (Next n) = done n
-put (Refused r) = refused r
+put (Refused n) = refuse n
 
 -- uint32, big-endian (RFC 4251 section 5)
 unfoldable pub word : ℕ → List ℕ

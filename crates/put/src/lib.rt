@@ -9,17 +9,15 @@ ghost use Rattle.answer.specs.Answer.{done};
 ghost use Rattle.put.specs.Written.{written, buffer, put, word, string};
 ghost use Rattle.put.specs.Runs.{nextOr};
 use answer::NO_ROOM;
-use answer::Refusal;
 use answer::TOO_LONG;
-use answer::refuse;
 
 // The most bytes whose count a uint32 can say.
 const LONGEST: usize = 4294967295;
 
-// Where the next byte goes, or the refusal.
+// Where the next byte goes, or the number of the refusal: a writer is no reader, and refuses nowhere.
 pub enum Put {
     Next(usize),
-    Refused(Refusal),
+    Refused(u8),
 }
 
 // Whether `need` bytes lack room at `at`: by a difference, since a sum could wrap.
@@ -62,7 +60,7 @@ pub fn put_u8(out: &mut [u8], at: usize, v: u8) -> Put
     ensures bytes { λ r. ⌜ now (out .exit) ≡ buffer (now (out .entry)) at (done (v ∷ [])) ⌝ }
 {
     if lacks(out.len(), at, 1) {
-        return Put::Refused(refuse(NO_ROOM));
+        return Put::Refused(NO_ROOM);
     }
     out[at] = v;
     Put::Next(at + 1)
@@ -73,7 +71,7 @@ pub fn put_u32(out: &mut [u8], at: usize, v: u32) -> Put
     ensures bytes { λ r. ⌜ now (out .exit) ≡ buffer (now (out .entry)) at (done (word v)) ⌝ }
 {
     if lacks(out.len(), at, 4) {
-        return Put::Refused(refuse(NO_ROOM));
+        return Put::Refused(NO_ROOM);
     }
     Put::Next(store_u32(out, at, v))
 }
@@ -83,7 +81,7 @@ pub fn put_bytes(out: &mut [u8], at: usize, x: &[u8]) -> Put
     ensures bytes { λ r. ⌜ now (out .exit) ≡ buffer (now (out .entry)) at (done (now (x .entry))) ⌝ }
 {
     if lacks(out.len(), at, x.len()) {
-        return Put::Refused(refuse(NO_ROOM));
+        return Put::Refused(NO_ROOM);
     }
     Put::Next(store_bytes(out, at, x))
 }
@@ -93,10 +91,10 @@ pub fn put_string(out: &mut [u8], at: usize, x: &[u8]) -> Put
     ensures bytes { λ r. ⌜ now (out .exit) ≡ buffer (now (out .entry)) at (string (now (x .entry))) ⌝ }
 {
     if LONGEST < x.len() {
-        return Put::Refused(refuse(TOO_LONG));
+        return Put::Refused(TOO_LONG);
     }
     if lacks(out.len(), at, 4 + x.len()) {
-        return Put::Refused(refuse(NO_ROOM));
+        return Put::Refused(NO_ROOM);
     }
     let body = store_u32(out, at, x.len() as u32);
     Put::Next(store_bytes(out, body, x))

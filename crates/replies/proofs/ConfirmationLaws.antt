@@ -4,7 +4,7 @@ use mathlib.Core.List.{List}
 use Prim.Native.Nat.{ℕ, _≤_}
 use borrow.Author.Tests.{le-leb}
 use lib.ListN.{length}
-use Rattle.answer.specs.Answer.{done, refuse, _>>=_}
+use Rattle.answer.specs.Answer.{done, refuseAt, _>>=_}
 use Rattle.answer.proofs.Laws.{un-done, un-refused, not-both}
 use Rattle.wire.specs.Fields.{At, here, word}
 use Rattle.replies.specs.declared.GotConfirmation.{GotConfirmation}
@@ -27,14 +27,14 @@ gotOffer-unique s (Offered o c) (NotOffered r) h = absurd (not-both h)
 gotOffer-unique s (NotOffered q) (Offered p d) h = absurd (not-both (sym h))
 gotOffer-unique s (NotOffered q) (NotOffered r) h = ap NotOffered (un-refused h)
 
--- a maximum packet of 0 is 6, whatever the sender and the window are
+-- a maximum packet of 0 is 6 where it stands, whatever the sender and the window are
 module _ (c c₁ c₂ c₃ : At) (sender window : ℕ) (e : word c ≡ done (sender, c₁)) (f : word c₁ ≡ done (window, c₂))
     (g : word c₂ ≡ done (0, c₃)) where
-  pub zero-offer : offer c ≡ refuse 6
+  pub zero-offer : offer c ≡ refuseAt 6 (c₂ .at)
   unfolding offer _>>=_
   zero-offer = rw (e, f, g)
 
   pub zero-confirmation : (b : List ℕ) (recipient : ℕ) → length b ≤ mostBody → word (here b 0) ≡ done (recipient, c)
-      → readConfirmation b ≡ refuse 6
+      → readConfirmation b ≡ refuseAt 6 (c₂ .at)
   unfolding readConfirmation _>>=_
   zero-confirmation b recipient h k = rw (le-leb (length b) mostBody h, k, zero-offer)

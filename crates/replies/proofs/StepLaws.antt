@@ -6,11 +6,11 @@ use mathlib.Core.List.{List}
 use Prim.Native.Nat.{ℕ, _≤_, _<_}
 use borrow.Author.Tests.{le-leb, lt-leb, eq-eqb, ne-eqb}
 use lib.Dec.{leb, eqb}
-use Rattle.answer.specs.Answer.{Out, refused, guard, _>>=_}
+use Rattle.answer.specs.Answer.{Out, refused, guard, guardAt, _>>=_}
 use Rattle.answer.specs.declared.Refusal.{Refusal}
+use Rattle.answer.proofs.Laws.{No, NoAt}
 use Rattle.wire.specs.declared.answers.Cursor.{Cursor}
 use Rattle.wire.specs.Fields.{At, here}
-use Rattle.wire.proofs.FieldLaws.{No}
 use Rattle.wire.proofs.StepLaws.{field-steps}
 use Rattle.replies.specs.declared.offer.Offer.{Offer}
 use Rattle.replies.specs.declared.offer.GotOffer.{GotOffer}
@@ -28,12 +28,12 @@ module _ {B : Type 0} (a most : ℕ) (f : Unit {0} → Out B) where
   unfolding _>>=_
   limit-out r h e = rw (lt-leb a most h, e)
 
-module _ {B : Type 0} (n : ℕ) (f : Unit {0} → Out B) where
-  pub zero-on : (m : Out B) → (n ≡ 0 → ⊥) → m ≡ f tt → m ≡ (guard 6 (not (eqb n 0)) >>= f)
+module _ {B : Type 0} (n i : ℕ) (f : Unit {0} → Out B) where
+  pub zero-on : (m : Out B) → (n ≡ 0 → ⊥) → m ≡ f tt → m ≡ (guardAt 6 i (not (eqb n 0)) >>= f)
   unfolding _>>=_
   zero-on m h k = rw (ne-eqb n 0 h) k
 
-  pub zero-out : (r : Refusal) → n ≡ 0 → No 6 r → refused r ≡ (guard 6 (not (eqb n 0)) >>= f)
+  pub zero-out : (r : Refusal) → n ≡ 0 → NoAt 6 i r → refused r ≡ (guardAt 6 i (not (eqb n 0)) >>= f)
   unfolding _>>=_
   zero-out r h e = rw (eq-eqb n 0 h, e)
 

@@ -4,12 +4,10 @@ use mathlib.Core.List.{List, [], _∷_, _++_, append-assoc}
 use Prim.Native.Nat.{ℕ, _+_, _≤_, _<_}
 use native.Mathlib.Omega.{arith}
 use lib.ListN.{length}
-use Rattle.answer.specs.Answer.{Out, refused, done, _>>=_}
-use Rattle.answer.specs.declared.Refusal.{Refusal}
+use Rattle.answer.specs.Answer.{Out, done, refuse, _>>=_}
 use Rattle.text.specs.Literal.{bytes}
 use Rattle.put.specs.Written.{written, buffer, word, string}
 use Rattle.put.proofs.PutLaws.{both, both-written, string-short, written-full, buffer-full}
-use Rattle.wire.proofs.FieldLaws.{No}
 use Rattle.replies.specs.Failure.{failure, payload}
 use Rattle.replies.proofs.FailureLaws.{failure-short, failure-long, payload-length}
 
@@ -58,9 +56,9 @@ module _ (out : List ℕ) (recipient reason : ℕ) (text : List ℕ) (short : le
 
 -- the two refusals change nothing
 module _ (out : List ℕ) (recipient reason : ℕ) (text : List ℕ) where
-  pub long-refused : (r : Refusal) → 1024 < length text → No 1 r → refused r ≡ written out 0 (failure recipient reason text)
+  pub long-refused : 1024 < length text → refuse 1 ≡ written out 0 (failure recipient reason text)
   unfolding written _>>=_
-  long-refused r h e = rw (failure-long recipient reason text h, e)
+  long-refused h = rw (failure-long recipient reason text h)
 
   pub long-kept : 1024 < length text → out ≡ buffer out 0 (failure recipient reason text)
   unfolding buffer
@@ -70,8 +68,8 @@ module _ (out : List ℕ) (recipient reason : ℕ) (text : List ℕ) where
     over : length out < 0 + length (payload recipient reason text)
     over = rw payload-length (omega arith)
 
-    pub full-refused : (r : Refusal) → No 8 r → refused r ≡ written out 0 (failure recipient reason text)
-    full-refused r e = rw (e, failure-short recipient reason text short, written-full out 0 (payload recipient reason text) over)
+    pub full-refused : refuse 8 ≡ written out 0 (failure recipient reason text)
+    full-refused = rw (failure-short recipient reason text short, written-full out 0 (payload recipient reason text) over)
 
     pub full-kept : out ≡ buffer out 0 (failure recipient reason text)
     full-kept = rw (failure-short recipient reason text short, buffer-full out 0 (payload recipient reason text) over)

@@ -2,7 +2,7 @@
 -- the next field starts.
 use mathlib.Core.List.{List}
 use Prim.Native.Nat.{ℕ}
-use Rattle.answer.specs.Answer.{Out, refused, done}
+use Rattle.answer.specs.Answer.{Out, refused, done, noRefusal}
 use Rattle.answer.specs.declared.Refusal.{Refusal}
 use Rattle.wire.specs.Fields.{At, here}
 use Rattle.replies.specs.declared.ChannelOpenConfirmation.{ChannelOpenConfirmation}
@@ -20,7 +20,7 @@ abbrev pub gotOffer : List ℕ → GotOffer → Out (Offer × At)
 gotOffer b (Offered o c) = done (o, here b (c .at))
 gotOffer b (NotOffered r) = refused r
 
--- the refusal of an answer that is one; of any other the number 0, which refuses nothing
+-- the refusal of an answer that is one
 abbrev pub whyNoOffer : GotOffer → Refusal
-whyNoOffer (Offered o c) = record { number = 0 }
+whyNoOffer (Offered o c) = noRefusal
 whyNoOffer (NotOffered r) = r

@@ -5,7 +5,7 @@ use mathlib.Core.List.{List}
 use Prim.Native.Nat.{ℕ}
 use lib.Dec.{leb, eqb}
 use lib.ListN.{length}
-use Rattle.answer.specs.Answer.{Out, done, guard, _>>=_}
+use Rattle.answer.specs.Answer.{Out, done, guard, guardAt, _>>=_}
 use Rattle.wire.specs.Fields.{At, here, word}
 use Rattle.replies.specs.declared.ChannelOpenConfirmation.{ChannelOpenConfirmation}
 use Rattle.replies.specs.declared.offer.Offer.{Offer}
@@ -14,13 +14,14 @@ use Rattle.replies.specs.declared.offer.Offer.{Offer}
 abbrev pub mostBody : ℕ
 mostBody = 262175
 
--- "sender, window, maximum packet, then 6 on 0": of an opening and of a confirmation alike (docs/DIFFERENCES.md, R7)
+-- "sender, window, maximum packet, then 6 on 0": of an opening and of a confirmation alike (docs/DIFFERENCES.md, R7); 6 is
+-- for the maximum's field
 unfoldable pub offer : At → Out (Offer × At)
 offer c = do
   (sender, c₁) ← word c
   (window, c₂) ← word c₁
   (most, c₃) ← word c₂
-  _ ← guard 6 (not (eqb most 0))
+  _ ← guardAt 6 (c₂ .at) (not (eqb most 0))
   done (record { «sender_channel» = sender; «initial_window_size» = window; «maximum_packet_size» = most }, c₃)
 
 -- "Confirmation body: four u32 (recipient, sender, window, maximum packet); 6 on maximum 0; later bytes are accepted."

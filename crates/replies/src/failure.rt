@@ -7,7 +7,6 @@ ghost use Rattle.put.specs.Written.{written, buffer, put};
 ghost use Rattle.replies.specs.Failure.{failure, unknownType, mostText};
 use answer::NO_ROOM;
 use answer::TOO_LONG;
-use answer::refuse;
 use put::Put;
 use put::put_string;
 use put::put_u8;
@@ -40,10 +39,10 @@ pub fn fail(recipient: u32, reason: u8, message: &[u8], out: &mut [u8]) -> Put
     ensures bytes { λ r. ⌜ now (out .exit) ≡ buffer (now (out .entry)) 0 (failure recipient reason (now (message .entry))) ⌝ }
 {
     if MOST_TEXT < message.len() {
-        return Put::Refused(refuse(TOO_LONG));
+        return Put::Refused(TOO_LONG);
     }
     if out.len() < AROUND_TEXT + message.len() {
-        return Put::Refused(refuse(NO_ROOM));
+        return Put::Refused(NO_ROOM);
     }
     write(recipient, reason, message, out)
 }

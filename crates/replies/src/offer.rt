@@ -7,6 +7,7 @@ use answer::INCONSISTENT;
 use answer::NOTHING;
 use answer::Refusal;
 use answer::refuse;
+use answer::refuse_at;
 use wire::answers::Cursor;
 use wire::answers::GotWord;
 
@@ -53,7 +54,7 @@ pub fn read_offer(body: &[u8], c: Cursor) -> GotOffer
         return GotOffer::Refused(m.why());
     };
     if maximum_packet_size == 0 {
-        return GotOffer::Refused(refuse(INCONSISTENT));
+        return GotOffer::Refused(refuse_at(INCONSISTENT, c2.at));
     }
     GotOffer::Offered(
         Offer {

@@ -13,6 +13,7 @@ settledOf (refused r) =
     record {
       what = 0;
       number = r .number;
+      offset = r .offset;
       kex = 0;
       key = 0;
       cipher = 0;
@@ -28,6 +29,7 @@ settledOf (done n) =
     record {
       what = 1;
       number = 0;
+      offset = 0;
       kex = n .kex .0;
       key = n .key .0;
       cipher = n .cipher .0;

@@ -11,6 +11,7 @@ use shapes::REFUSED;
 pub struct Settled {
     pub what: u8,
     pub number: u8,
+    pub offset: usize,
     pub kex: u8,
     pub key: u8,
     pub cipher: u8,
@@ -30,6 +31,7 @@ pub fn settled_of(g: GotNames) -> Settled
         GotNames::Settled(n) => Settled {
             what: DONE,
             number: 0,
+            offset: 0,
             kex: n.kex.0,
             key: n.key.0,
             cipher: n.cipher.0,
@@ -44,6 +46,7 @@ pub fn settled_of(g: GotNames) -> Settled
         GotNames::Refused(r) => Settled {
             what: REFUSED,
             number: r.number,
+            offset: r.offset,
             kex: 0,
             key: 0,
             cipher: 0,

@@ -23,13 +23,13 @@ module _ (s : List ℕ) (p : Place) (no : ℕ) where
   outside t told = rw (told, t)
 
   pub shown-inside : no ≡ refusalOf (shown s p) → no ≡ 0
-      → _≡_ {A = Shown} (record { what = 1; number = 0; start = p .start; len = p .len }) (shownOf p (shown s p))
+      → _≡_ {A = Shown} (record { what = 1; number = 0; offset = 0; start = p .start; len = p .len }) (shownOf p (shown s p))
   unfolding shown shownOf _>>=_
   shown-inside told e =
       split (leb (p .start + p .len) (length s)) (λ t. rw t) (λ f. let z : no ≡ 2 = outside f told in absurd (omega arith))
 
   pub shown-outside : no ≡ refusalOf (shown s p) → (no ≡ 0 → ⊥)
-      → _≡_ {A = Shown} (record { what = 0; number = no; start = 0; len = 0 }) (shownOf p (shown s p))
+      → _≡_ {A = Shown} (record { what = 0; number = no; offset = 0; start = 0; len = 0 }) (shownOf p (shown s p))
   unfolding shown shownOf _>>=_
   shown-outside told e =
       split (leb (p .start + p .len) (length s)) (λ t. absurd (e (inside t told))) (λ f. rw (f, outside f told))

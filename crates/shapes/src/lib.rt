@@ -28,6 +28,7 @@ pub struct Written {
 pub struct Shown {
     pub what: u8,
     pub number: u8,
+    pub offset: usize,
     pub start: usize,
     pub len: usize,
 }
@@ -41,9 +42,9 @@ pub fn written_of(p: Put) -> Written
             number: 0,
             len: n,
         },
-        Put::Refused(r) => Written {
+        Put::Refused(number) => Written {
             what: REFUSED,
-            number: r.number,
+            number,
             len: 0,
         },
     }
@@ -58,6 +59,7 @@ pub fn judge_place(s: &[u8], p: Place) -> Shown
         return Shown {
             what: DONE,
             number: 0,
+            offset: 0,
             start: p.start,
             len: p.len,
         };
@@ -65,6 +67,7 @@ pub fn judge_place(s: &[u8], p: Place) -> Shown
     Shown {
         what: REFUSED,
         number: no,
+        offset: 0,
         start: 0,
         len: 0,
     }

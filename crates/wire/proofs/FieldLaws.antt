@@ -11,11 +11,8 @@ use lib.ListN.{length, getD, take, drop, length-drop, drop-of-length-le}
 use lib.Seq.{drop-drop, getD-drop, take-all}
 use Rattle.answer.specs.Answer.{Out, refused, done, _>>=_}
 use Rattle.answer.specs.declared.Refusal.{Refusal}
+use Rattle.answer.proofs.Laws.{NoAt}
 use Rattle.wire.specs.Fields.{At, here, skip, byte, word, run, string, end, bigEndian}
-
--- the refusal that carries n
-abbrev pub No : ℕ → Refusal → Type 0
-No n r = _≡_ {A = Refusal} r (record { number = n })
 
 module _ (s : List ℕ) (i : ℕ) where
   -- enough is left, or not, by what is left of the slice
@@ -28,7 +25,7 @@ module _ (s : List ℕ) (i : ℕ) where
   pub moved : (n : ℕ) → _≡_ {A = At} (skip n (here s i)) (here s (i + n))
   moved n = rw drop-drop
 
-  pub byte-past : (r : Refusal) → length s ≤ i → No 2 r → refused r ≡ byte (here s i)
+  pub byte-past : (r : Refusal) → length s ≤ i → NoAt 2 i r → refused r ≡ byte (here s i)
   unfolding byte _>>=_
   byte-past r h e = rw (short 1 (omega arith), e)
 
@@ -36,14 +33,14 @@ module _ (s : List ℕ) (i : ℕ) where
   unfolding byte _>>=_
   byte-at h = rw (long 1 (omega arith), drop-drop, getD-drop, add-zero)
 
-  word-past : (r : Refusal) → length s - i < 4 → No 2 r → refused r ≡ word (here s i)
+  word-past : (r : Refusal) → length s - i < 4 → NoAt 2 i r → refused r ≡ word (here s i)
   unfolding word _>>=_
   word-past r h e = rw (short 4 h, e)
 
-  pub word-short : (r : Refusal) → length s < 4 → No 2 r → refused r ≡ word (here s i)
+  pub word-short : (r : Refusal) → length s < 4 → NoAt 2 i r → refused r ≡ word (here s i)
   word-short r h e = word-past r (omega arith) e
 
-  pub word-late : (r : Refusal) → length s - 4 < i → No 2 r → refused r ≡ word (here s i)
+  pub word-late : (r : Refusal) → length s - 4 < i → NoAt 2 i r → refused r ≡ word (here s i)
   word-late r h e = word-past r (omega arith) e
 
   pub word-at : (n : ℕ) → 4 ≤ length s → i ≤ length s - 4
@@ -56,7 +53,7 @@ module _ (s : List ℕ) (i : ℕ) where
   unfolding end
   end-past h = rw (le-leb (length (drop i s)) 0 (simp length-drop (omega arith)))
 
-  pub end-before : (r : Refusal) → i < length s → No 5 r → refused r ≡ end (here s i)
+  pub end-before : (r : Refusal) → i < length s → NoAt 5 i r → refused r ≡ end (here s i)
   unfolding end
   end-before r h e = rw (lt-leb (length (drop i s)) 0 (simp length-drop (omega arith)), e)
 

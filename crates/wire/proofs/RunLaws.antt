@@ -10,7 +10,7 @@ use lib.ListN.{length, getD, take, drop, length-drop}
 use lib.Seq.{drop-drop}
 use Rattle.answer.specs.Answer.{Out, refused, done, _>>=_}
 use Rattle.answer.specs.declared.Refusal.{Refusal}
-use Rattle.answer.proofs.Laws.{split, un-done, not-both}
+use Rattle.answer.proofs.Laws.{NoAt, split, un-done, not-both}
 use Rattle.wire.specs.declared.answers.Cursor.{Cursor}
 use Rattle.wire.specs.declared.answers.Place.{Place}
 use Rattle.wire.specs.declared.answers.GotWord.{GotWord}
@@ -21,7 +21,7 @@ use Rattle.wire.specs.declared.answers.GotText.{GotText}
 use Rattle.wire.specs.declared.answers.GotText.the-variants.{Text, Refused as NoText}
 use Rattle.wire.specs.Shown.{part}
 use Rattle.wire.specs.Answers.{gotWord, gotText, runAt, whyNoWord}
-use Rattle.wire.proofs.FieldLaws.{No, long, short, moved}
+use Rattle.wire.proofs.FieldLaws.{long, short, moved}
 
 module _ (s : List ℕ) (i : ℕ) (w : GotWord) (told : gotWord s w ≡ word (here s i)) where
   -- a number that was read stands inside the slice
@@ -38,7 +38,7 @@ module _ (s : List ℕ) (i : ℕ) (w : GotWord) (told : gotWord s w ≡ word (he
   unfolding run _>>=_
   run-stop x r e f = rw (← told, f, e)
 
-  pub run-late : (n : ℕ) (c : Cursor) (r : Refusal) → w ≡ Word n c → length s - c .at < n → No 2 r → refused r ≡ run (here s i)
+  pub run-late : (n : ℕ) (c : Cursor) (r : Refusal) → w ≡ Word n c → length s - c .at < n → NoAt 2 i r → refused r ≡ run (here s i)
   unfolding run _>>=_
   run-late n c r e h f = rw (← told, f, e, short s (c .at) n h)
 
@@ -98,7 +98,7 @@ module _ (s : List ℕ) (i : ℕ) (r : GotText) (told : gotText s r ≡ run (her
     unfolding string _>>=_
     string-at h = rw (← told, e, ← text-bytes p c e, ← f, h)
 
-    pub string-bad : b ≡ false → (q : Refusal) → No 3 q → refused q ≡ string (here s i)
+    pub string-bad : b ≡ false → (q : Refusal) → NoAt 3 i q → refused q ≡ string (here s i)
     unfolding string _>>=_
     string-bad h q n = rw (← told, e, ← text-bytes p c e, ← f, h, n)
 

@@ -1,7 +1,7 @@
 -- What the answers of the code mean, over the slice s that was lent: document 01's number, or the values.
 use mathlib.Core.List.{List}
 use Prim.Native.Nat.{ℕ}
-use Rattle.answer.specs.Answer.{Out, refused, done}
+use Rattle.answer.specs.Answer.{Out, refused, done, noRefusal}
 use Rattle.answer.specs.declared.Refusal.{Refusal}
 use Rattle.wire.specs.declared.answers.Place.{Place}
 use Rattle.wire.specs.declared.answers.GotByte.{GotByte}
@@ -42,19 +42,19 @@ abbrev pub nextOf : List ℕ → NextName → Next
 nextOf s (Name p c) = name (runAt s p) (here s (c .at))
 nextOf s NoMore = none
 
--- the refusal of an answer that is one; of any other the number 0, which refuses nothing
+-- the refusal of an answer that is one
 abbrev pub whyNoByte : GotByte → Refusal
-whyNoByte (Byte b c) = record { number = 0 }
+whyNoByte (Byte b c) = noRefusal
 whyNoByte (NoByte r) = r
 
 abbrev pub whyNoWord : GotWord → Refusal
-whyNoWord (Word n c) = record { number = 0 }
+whyNoWord (Word n c) = noRefusal
 whyNoWord (NoWord r) = r
 
 abbrev pub whyNoText : GotText → Refusal
-whyNoText (Text p c) = record { number = 0 }
+whyNoText (Text p c) = noRefusal
 whyNoText (NoText r) = r
 
 abbrev pub whyNotFine : Checked → Refusal
-whyNotFine Fine = record { number = 0 }
+whyNotFine Fine = noRefusal
 whyNotFine (NotFine r) = r

@@ -1,5 +1,5 @@
 // Bytes, numbers and strings, read at a cursor. Every position gets an answer, also past the end and near the largest
-// usize: what is left is measured by differences, never by a sum that could wrap.
+// usize: what is left is measured by differences, never by a sum that could wrap. A field is refused where it starts.
 ghost use mathlib.Core.Path.{_≡_};
 ghost use Prim.Native.Nat.{_+_, min};
 ghost use denote.Ref.{ptr};
@@ -17,7 +17,7 @@ use crate::answers::Place;
 use answer::NOT_UTF8;
 use answer::PAST_END;
 use answer::TRAILING;
-use answer::refuse;
+use answer::refuse_at;
 use commas::name_end;
 
 fn big_endian(a: u8, b: u8, c: u8, d: u8) -> u32
@@ -32,7 +32,7 @@ impl Cursor {
     {
         let at = self.at;
         if s.len() <= at {
-            return GotByte::Refused(refuse(PAST_END));
+            return GotByte::Refused(refuse_at(PAST_END, at));
         }
         GotByte::Byte(s[at], Cursor { at: at + 1 })
     }
@@ -42,10 +42,10 @@ impl Cursor {
     {
         let at = self.at;
         if s.len() < 4 {
-            return GotWord::Refused(refuse(PAST_END));
+            return GotWord::Refused(refuse_at(PAST_END, at));
         }
         if s.len() - 4 < at {
-            return GotWord::Refused(refuse(PAST_END));
+            return GotWord::Refused(refuse_at(PAST_END, at));
         }
         let n = big_endian(s[at], s[at + 1], s[at + 2], s[at + 3]);
         GotWord::Word(n, Cursor { at: at + 4 })
@@ -62,7 +62,7 @@ impl Cursor {
         let start = c.at;
         let len = n as usize;
         if s.len() - start < len {
-            return GotText::Refused(refuse(PAST_END));
+            return GotText::Refused(refuse_at(PAST_END, self.at));
         }
         GotText::Text(Place { start, len }, Cursor { at: start + len })
     }
@@ -80,7 +80,7 @@ impl Cursor {
         if text::utf8(&s[start..end]) {
             return GotText::Text(p, c);
         }
-        GotText::Refused(refuse(NOT_UTF8))
+        GotText::Refused(refuse_at(NOT_UTF8, self.at))
     }
 
     // Nothing is left: `ensure_end` of the Rust. Past the end nothing is left either.
@@ -90,7 +90,7 @@ impl Cursor {
         if s.len() <= self.at {
             return Checked::Fine;
         }
-        Checked::Refused(refuse(TRAILING))
+        Checked::Refused(refuse_at(TRAILING, self.at))
     }
 
     // The next name of a list that is lent whole. A comma at the very end ends the last name and starts none.

@@ -6,10 +6,10 @@ use Rattle.kexinit.proofs.write_kex.Statement.{statement}
 use Rattle.kexinit.proofs.write_kex.Tie as tie
 
 returns : tie.Need-returns
-returns c = kex-tables _ _ _ _ (c .before .before .before .own-lists .ensures) (c .before .if1 .taken) _ (c .refuse .ensures)
+returns c = kex-tables _ _ _ _ (c .before .before .own-lists .ensures) (c .if1 .taken)
 
 returns-2 : tie.Need-returns-2
-returns-2 c = kex-cookie _ _ _ (c .before .if2 .taken) _ (c .refuse2 .ensures)
+returns-2 c = kex-cookie _ _ _ (c .if2 .taken)
 
 returns-3 : tie.Need-returns-3
 unfolding allNames kexNames keyNames certificateNames cipherNames macNames compressionNames
@@ -20,9 +20,7 @@ write-kex-spec =
     tie.close
     (tie.spec
     (λ c κs. search needs)
-    (λ c κs. search needs)
     returns
-    (λ c κs. search needs)
     returns-2
     (λ c. search needs)
     (λ c. search needs)

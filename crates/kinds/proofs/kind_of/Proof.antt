@@ -27,4 +27,4 @@ returns-7 c = search kind-laws
 pub kind-of-spec : {M : Type 1} → statement M
 kind-of-spec =
     tie.close
-    (tie.spec returns returns-2 returns-3 returns-4 returns-5 returns-6 (λ c κs. search needs) returns-7)
+    (tie.spec returns returns-2 returns-3 returns-4 returns-5 returns-6 returns-7)

@@ -41,5 +41,6 @@ name-list-spec =
     (λ c. search needs)
     (λ c. search needs)
     (λ c κs. search needs)
+    (λ c κs. search needs)
     returns-3
     returns-4)

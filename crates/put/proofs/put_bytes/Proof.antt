@@ -16,4 +16,4 @@ returns-2 c = search code
 pub put-bytes-spec : {M : Type 1} → statement M
 put-bytes-spec =
     tie.close
-    (tie.spec (λ c κs. search needs) (λ c κs. search needs) returns store-bytes-requires (λ c. search needs) returns-2)
+    (tie.spec (λ c κs. search needs) returns store-bytes-requires (λ c. search needs) returns-2)

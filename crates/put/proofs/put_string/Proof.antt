@@ -31,10 +31,8 @@ pub put-string-spec : {M : Type 1} → statement M
 put-string-spec =
     tie.close
     (tie.spec
-    (λ c κs. search needs)
     returns
     (λ c. search needs)
-    (λ c κs. search needs)
     (λ c κs. search needs)
     returns-2
     (λ c. search needs)

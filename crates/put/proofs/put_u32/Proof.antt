@@ -16,4 +16,4 @@ returns-2 c = search code
 pub put-u32-spec : {M : Type 1} → statement M
 put-u32-spec =
     tie.close
-    (tie.spec (λ c κs. search needs) (λ c κs. search needs) returns store-u32-requires (λ c. search needs) returns-2)
+    (tie.spec (λ c κs. search needs) returns store-u32-requires (λ c. search needs) returns-2)

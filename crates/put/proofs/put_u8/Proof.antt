@@ -22,4 +22,4 @@ returns-2 c = search code
 pub put-u8-spec : {M : Type 1} → statement M
 put-u8-spec =
     tie.close
-    (tie.spec (λ c κs. search needs) (λ c κs. search needs) returns slice-write-out add-t5 (λ c. search needs) returns-2)
+    (tie.spec (λ c κs. search needs) returns slice-write-out add-t5 (λ c. search needs) returns-2)

@@ -12,4 +12,4 @@ returns-2 c = search column-out
 
 pub flag-at-spec : {M : Type 1} → statement M
 flag-at-spec =
-    tie.close (tie.spec (λ c κs. search needs) (λ c. search needs) (λ c κs. search needs) returns returns-2)
+    tie.close (tie.spec (λ c κs. search needs) (λ c. search needs) returns returns-2)

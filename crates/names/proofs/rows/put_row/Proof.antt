@@ -19,5 +19,4 @@ put-row-spec =
     (λ c κs. search needs)
     (λ c. search needs)
     returns
-    (λ c κs. search needs)
     returns-2)

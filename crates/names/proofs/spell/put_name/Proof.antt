@@ -8,7 +8,7 @@ use Rattle.names.proofs.spell.put_name.Statement.{statement}
 use Rattle.names.proofs.spell.put_name.Tie as tie
 
 returns : tie.Need-returns
-returns c = refuses _ _ _ (c .before .before .before .wide .ensures .0) _ (c .before .before .count .ensures) _ _ _ (c .before .if1 .taken) (c .refuse .ensures)
+returns c = refuses _ _ _ (c .before .before .wide .ensures .0) _ (c .before .count .ensures) _ _ (c .if1 .taken)
 
 add-row : tie.Need-add-row
 add-row c = omega (arith, row-fits _ _ _ (c .before .before .before .wide .ensures .0) _ (c .before .before .count .ensures) _ (c .first-row .ensures) (c .before .if1 .left))
@@ -21,7 +21,6 @@ pub put-name-spec : {M : Type 1} → statement M
 put-name-spec =
     tie.close
     (tie.spec
-    (λ c κs. search needs)
     (λ c κs. search needs)
     (λ c κs. search needs)
     returns

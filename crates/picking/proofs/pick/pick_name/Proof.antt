@@ -27,6 +27,7 @@ pick-name-spec =
     (λ c. search needs)
     (λ c κs. search needs)
     returns
+    (λ c κs. search needs)
     sub-pick-from
     part-pick-from-start
     part-pick-from-end

@@ -1,0 +1,1 @@
+// What each reader can refuse with, and where: no function, only what is proved of those below.
