@@ -1,5 +1,5 @@
 // Channel opening and its confirmation.
-use crate::print::answer;
+use crate::print::answer_at;
 use crate::print::small;
 use crate::print::text;
 use crate::print::value;
@@ -11,7 +11,7 @@ use door::channel::harupesat_read_open;
 use text::front;
 
 fn opened(m: Open) {
-    answer(m.what, m.number);
+    answer_at(m.what, m.number, m.offset);
     small(b" typ ", m.typ);
     value(b" recipient_channel ", m.recipient_channel as u64);
     value(b" recipient_window_size ", m.recipient_window_size as u64);
@@ -95,7 +95,7 @@ fn field_refused() {
 }
 
 fn confirmed(m: Confirmation) {
-    answer(m.what, m.number);
+    answer_at(m.what, m.number, m.offset);
     value(b" recipient_channel ", m.recipient_channel as u64);
     value(b" sender_channel ", m.sender_channel as u64);
     value(b" initial_window_size ", m.initial_window_size as u64);

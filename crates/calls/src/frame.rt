@@ -1,6 +1,7 @@
 // Clear packets.
 use crate::print::MARK;
 use crate::print::answer;
+use crate::print::answer_at;
 use crate::print::ends;
 use crate::print::hex;
 use crate::print::value;
@@ -12,7 +13,7 @@ use door::frame::harupesat_frame_write;
 use text::front;
 
 fn frame(f: Frame) {
-    answer(f.what, f.number);
+    answer_at(f.what, f.number, f.offset);
     value(b" need ", f.need as u64);
     value(b" start ", f.start as u64);
     value(b" len ", f.len as u64);

@@ -1,5 +1,5 @@
 // KEXINIT, read.
-use crate::print::answer;
+use crate::print::answer_at;
 use crate::print::flag;
 use crate::print::small;
 use crate::print::text;
@@ -11,7 +11,7 @@ use door::kex::harupesat_read_kex;
 use text::front;
 
 fn settled(n: Settled) {
-    answer(n.what, n.number);
+    answer_at(n.what, n.number, n.offset);
     small(b" kex ", n.kex);
     small(b" key ", n.key);
     small(b" cipher ", n.cipher);

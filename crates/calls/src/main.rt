@@ -1,5 +1,5 @@
 // Every function of include/harupesat.h called, a line for each call: the call, then each field of its answer by name, and
-// of a writer the lent output after it. The file stdout was written by hand from document 01 and the header: what a
+// of a writer the lent output after it. The file stdout was written by hand from documents 01 and 02 and the header: what a
 // definition and the code would get wrong alike shows here.
 mod channel;
 mod failure;

@@ -1,5 +1,5 @@
 // A place, judged.
-use crate::print::answer;
+use crate::print::answer_at;
 use crate::print::value;
 use crate::print::words;
 use door::place::harupesat_show;
@@ -10,7 +10,7 @@ fn shows(start: usize, len: usize) {
     value(b" start ", start as u64);
     value(b" len ", len as u64);
     let p = harupesat_show(s, start, len);
-    answer(p.what, p.number);
+    answer_at(p.what, p.number, p.offset);
     value(b" start ", p.start as u64);
     value(b" len ", p.len as u64);
     words(b"\n");

@@ -40,6 +40,12 @@ pub fn answer(what: u8, number: u8) {
     small(b" number ", number);
 }
 
+// A reader's answer.
+pub fn answer_at(what: u8, number: u8, offset: usize) {
+    answer(what, number);
+    value(b" offset ", offset as u64);
+}
+
 fn spaced(n: u64) {
     value(b" ", n);
 }

@@ -36,8 +36,15 @@ fn value(s: &[u8], n: usize) {
     io::print_decimal(1, n as u64);
 }
 
-fn refused(r: Refusal) {
-    value(b"refused with ", names::wide(r.number));
+// By a writer.
+fn refused(number: u8) {
+    value(b"refused with ", names::wide(number));
+}
+
+// By a reader.
+fn refused_at(r: Refusal) {
+    refused(r.number);
+    value(b" at byte ", r.offset);
 }
 
 // A packet of the payload. Where it ends; 0 where it was refused.
@@ -49,8 +56,8 @@ fn seals(payload: &[u8], packet: &mut [u8]) -> usize {
             value(b" bytes in a packet of ", total);
             total
         }
-        Sealed::Refused(r) => {
-            refused(r);
+        Sealed::Refused(number) => {
+            refused(number);
             0
         }
     }
@@ -83,8 +90,8 @@ fn sends(
     );
     match w {
         Put::Next(n) => seals(front(&payload, n), packet),
-        Put::Refused(r) => {
-            refused(r);
+        Put::Refused(number) => {
+            refused(number);
             0
         }
     }
@@ -140,7 +147,7 @@ fn tells(before: &[u8], e: Ending) {
         }
         Ending::Refused(r) => {
             words(before);
-            refused(r);
+            refused_at(r);
         }
         Ending::Needs(n) => {
             words(before);
@@ -167,6 +174,7 @@ fn settled_same(a: Names, e: Ending) {
     }
 }
 
+// By their numbers: each end reads the other's payload, where its list stands elsewhere.
 fn refused_same(r: Refusal, e: Ending) {
     let Ending::Refused(q) = e else {
         words(b"\none end refused alone\n");

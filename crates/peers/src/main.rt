@@ -1,6 +1,7 @@
 // The first packets of real SSH programs, one file each, read as a server and as a client with the default tables: what would
-// be settled, or the number of the refusal. The files are named by the arguments; data/INDEX.tsv says where they come from,
-// docs/PEERS.md what the outcome means. What is written is held to the file stdout.
+// be settled, or the refusal's number and offset. The files are named by the arguments; data/INDEX.tsv says where they come
+// from, docs/PEERS.md what the outcome means. What is written is held to the file stdout.
+use answer::Refusal;
 use choice::Side;
 use framing::Counters;
 use framing::GotPacket;
@@ -22,6 +23,11 @@ fn words(s: &[u8]) {
 fn number(s: &[u8], n: usize) {
     words(s);
     io::print_decimal(1, n as u64);
+}
+
+fn refused(s: &[u8], r: Refusal) {
+    number(s, names::wide(r.number));
+    number(b" at byte ", r.offset);
 }
 
 fn settled(n: Names) {
@@ -48,7 +54,7 @@ fn settles(side: Side, kinds: &[u8], ids: &[u32], payload: &[u8]) {
     );
     match got {
         GotNames::Settled(n) => settled(n),
-        GotNames::Refused(r) => number(b" refuses with ", names::wide(r.number)),
+        GotNames::Refused(r) => refused(b" refuses with ", r),
     }
 }
 
@@ -67,7 +73,7 @@ fn reads(s: &[u8]) {
     match got {
         GotPacket::Whole(p) => opens(s, p),
         GotPacket::Need(n) => number(b" needs ", n),
-        GotPacket::Refused(r) => number(b" refused with ", names::wide(r.number)),
+        GotPacket::Refused(r) => refused(b" refused with ", r),
     }
 }
 

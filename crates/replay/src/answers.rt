@@ -5,7 +5,9 @@ use crate::tell::Told;
 use crate::tell::bytes;
 use crate::tell::number;
 use crate::tell::refused;
+use crate::tell::refused_at;
 use crate::tell::word;
+use answer::refuse_at;
 use channels::GotOpen;
 use channels::OpenChannelMessage;
 use framing::Counters;
@@ -19,6 +21,8 @@ use negotiation::GotNames;
 use put::Put;
 use replies::ChannelOpenConfirmation;
 use replies::GotConfirmation;
+use shapes::DONE;
+use shapes::Shown;
 use text::front;
 use wire::answers::Place;
 
@@ -46,14 +50,14 @@ pub fn settled(line: &[u8], at: usize, got: GotNames) -> Told {
             let values = say::numbers(n);
             accepted(each(line, ok(line, at), &values))
         }
-        GotNames::Refused(r) => refused(line, at, r),
+        GotNames::Refused(r) => refused_at(line, at, r),
     }
 }
 
 pub fn written(line: &[u8], at: usize, w: Put, out: &[u8]) -> Told {
     match w {
         Put::Next(n) => accepted(bytes(line, ok(line, at), front(out, n))),
-        Put::Refused(r) => refused(line, at, r),
+        Put::Refused(n) => refused(line, at, n),
     }
 }
 
@@ -81,7 +85,7 @@ pub fn packet(line: &[u8], at: usize, got: GotPacket, s: &[u8]) -> Told {
     match got {
         GotPacket::Need(n) => need(line, at, n),
         GotPacket::Whole(k) => accepted(whole(line, ok(line, at), k, s)),
-        GotPacket::Refused(r) => refused(line, at, r),
+        GotPacket::Refused(r) => refused_at(line, at, r),
     }
 }
 
@@ -91,7 +95,7 @@ pub fn sealed(line: &[u8], at: usize, w: Sealed, out: &[u8]) -> Told {
             let p = bytes(line, ok(line, at), front(out, n));
             accepted(counters(line, p, k))
         }
-        Sealed::Refused(r) => refused(line, at, r),
+        Sealed::Refused(n) => refused(line, at, n),
     }
 }
 
@@ -153,7 +157,7 @@ fn message(line: &[u8], at: usize, m: OpenChannelMessage, body: &[u8]) -> usize 
 pub fn opened(line: &[u8], at: usize, got: GotOpen, body: &[u8]) -> Told {
     match got {
         GotOpen::Message(m) => accepted(message(line, ok(line, at), m, body)),
-        GotOpen::Refused(r) => refused(line, at, r),
+        GotOpen::Refused(r) => refused_at(line, at, r),
     }
 }
 
@@ -167,6 +171,17 @@ fn confirmation(line: &[u8], at: usize, m: ChannelOpenConfirmation) -> usize {
 pub fn confirmed(line: &[u8], at: usize, got: GotConfirmation) -> Told {
     match got {
         GotConfirmation::Confirmed(m) => accepted(confirmation(line, ok(line, at), m)),
-        GotConfirmation::Refused(r) => refused(line, at, r),
+        GotConfirmation::Refused(r) => refused_at(line, at, r),
     }
+}
+
+pub fn shown(line: &[u8], at: usize, p: Shown, s: &[u8]) -> Told {
+    if p.what == DONE {
+        let place = Place {
+            start: p.start,
+            len: p.len,
+        };
+        return accepted(bytes(line, ok(line, at), part(s, place)));
+    }
+    refused_at(line, at, refuse_at(p.number, p.offset))
 }

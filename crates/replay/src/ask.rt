@@ -235,6 +235,30 @@ fn unknown_type(line: &[u8], r: Reader, at: usize) -> Said {
     Said::Ours(answers::written(line, at, w, &out), end)
 }
 
+fn show(line: &[u8], r: Reader, space: &[u8], at: usize) -> Said {
+    let x = r.bytes(line);
+    let GotBytes::Bytes(p, r1) = x else {
+        return Said::Malformed;
+    };
+    let a = r1.number(line);
+    let GotNumber::Number(start, r2) = a else {
+        return Said::Malformed;
+    };
+    let b = r2.number(line);
+    let GotNumber::Number(len, end) = b else {
+        return Said::Malformed;
+    };
+    let s = part(space, p);
+    let place = Place {
+        start: start as usize,
+        len: len as usize,
+    };
+    Said::Ours(
+        answers::shown(line, at, shapes::judge_place(s, place), s),
+        end,
+    )
+}
+
 // By the function's place in the report.
 pub fn ask(function: usize, line: &[u8], r: Reader, space: &[u8], at: usize) -> Said {
     match function {
@@ -246,6 +270,7 @@ pub fn ask(function: usize, line: &[u8], r: Reader, space: &[u8], at: usize) -> 
         5 => confirmation(line, r, space, at),
         6 => fail(line, r, space, at),
         7 => unknown_type(line, r, at),
+        8 => show(line, r, space, at),
         _ => Said::Malformed,
     }
 }

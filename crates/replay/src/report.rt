@@ -1,7 +1,7 @@
 // What is written: each line that differs, and how many answers of each function and sort were replayed.
 use names::Row;
 
-const FUNCTIONS: usize = 8;
+const FUNCTIONS: usize = 9;
 
 // Accepted, a refusal's number, or "need".
 const SORTS: usize = 16;
@@ -9,9 +9,9 @@ const SORTS: usize = 16;
 // The counts: a row for each function, which has the sum and then each sort; and the sum of all.
 const COLUMNS: usize = 17;
 
-const TOTAL: usize = 136;
+const TOTAL: usize = 153;
 
-pub const CELLS: usize = 137;
+pub const CELLS: usize = 154;
 
 // For what is not counted.
 pub const NO_CELL: usize = CELLS;
@@ -39,7 +39,7 @@ pub fn differs(number: u64, recorded: &[u8]) {
 }
 
 // The functions' names as columns, in the report's order: looked up and spelled as the tables' names are.
-const SPELLINGS: [u8; 70] = *b"\
+const SPELLINGS: [u8; 74] = *b"\
     read_kex\
     write_kex\
     frame_read\
@@ -48,11 +48,12 @@ const SPELLINGS: [u8; 70] = *b"\
     confirmation\
     fail\
     unknown_type\
+    show\
 ";
 
-const STARTS: [u16; FUNCTIONS] = [0, 8, 17, 27, 38, 42, 54, 58];
+const STARTS: [u16; FUNCTIONS] = [0, 8, 17, 27, 38, 42, 54, 58, 70];
 
-const LENGTHS: [u8; FUNCTIONS] = [8, 9, 10, 11, 4, 12, 4, 12];
+const LENGTHS: [u8; FUNCTIONS] = [8, 9, 10, 11, 4, 12, 4, 12, 4];
 
 // The function's place in the report, FUNCTIONS where there is none of the name.
 pub fn place(name: &[u8]) -> usize {

@@ -44,11 +44,21 @@ pub fn number(line: &[u8], at: usize, n: u64) -> usize {
     word(line, p, &digits[..k])
 }
 
-pub fn refused(line: &[u8], at: usize, r: Refusal) -> Told {
+// A writer's refusal.
+pub fn refused(line: &[u8], at: usize, sort: u8) -> Told {
     let p = word(line, at, b"no");
     Told {
-        at: number(line, p, names::wide(r.number) as u64),
-        sort: r.number,
+        at: number(line, p, names::wide(sort) as u64),
+        sort,
+    }
+}
+
+// A reader's, which says where.
+pub fn refused_at(line: &[u8], at: usize, r: Refusal) -> Told {
+    let told = refused(line, at, r.number);
+    Told {
+        at: number(line, told.at, r.offset as u64),
+        sort: told.sort,
     }
 }
 

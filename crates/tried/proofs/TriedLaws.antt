@@ -22,13 +22,13 @@ use Rattle.layouts.specs.Types.{exact, channelType}
 use Rattle.channels.specs.Open.{readOpen}
 use Rattle.negotiation.specs.KexInit.{textField, encoded as encodedFields, offer}
 use Rattle.negotiation.specs.Written.{kexInit}
-use Rattle.negotiation.specs.Read.{number, needsMac, settleMac, strict, isCertificate, keyNumber, settled, readKex}
+use Rattle.negotiation.specs.Read.{number, needsMac, settle, settleMac, strict, isCertificate, keyNumber, settled, readKex}
 use Rattle.tried.specs.Row.{Row, wrong}
 use Rattle.tried.specs.Rows.{packetRows, shortRows, ctrRows, chacha20Rows, reversedRows, unsharedRows, ignoredRows, keptRows, rows}
 
 -- opens every definition on the way from the tried bytes to the answers
-computed : Unit {0}
-unfolding same _>>=_ encoded ascii utf8 octets next utf8Rows byte word run string end cut join standing judged judgedList nameList namesOf allNames kexNames keyNames certificateNames cipherNames macNames compressionNames needMac placeFrom numberOf first listed firstShared chosen bothFirst rowSpelled all below eachKeyRow goodList goodLists goodRowTable goodTables agrees consistent mayLend valid member kept without kexWritten kexChosen ofKind held added certificates keysOf paddingLength judgedLength judgedPadding counted frame packetOf announced paddingOf packetAt wholePacket readPacket granted exact channelType readOpen textField encodedFields flatten kexInit offer number needsMac settleMac strict isCertificate keyNumber settled readKex
+unfoldable pub computed : Unit {0}
+unfolding same _>>=_ encoded ascii utf8 octets next utf8Rows byte word run string end cut join standing judged judgedList nameList namesOf allNames kexNames keyNames certificateNames cipherNames macNames compressionNames needMac placeFrom numberOf first listed firstShared chosen bothFirst rowSpelled all below eachKeyRow goodList goodLists goodRowTable goodTables agrees consistent mayLend valid member kept without kexWritten kexChosen ofKind held added certificates keysOf paddingLength judgedLength judgedPadding counted frame packetOf announced paddingOf packetAt wholePacket readPacket granted exact channelType readOpen textField encodedFields flatten kexInit offer number needsMac settle settleMac strict isCertificate keyNumber settled readKex
 computed = tt
 
 -- By its type, so that the check computes a part's wrong rows once and can show them.

@@ -7,3 +7,5 @@ pub mod RoomRows
 pub mod PlaceRows
 pub mod NameRows
 pub mod AddedRows
+pub mod OffsetRows
+pub mod BodyRows

@@ -1,15 +1,15 @@
--- P1 to P12 of document 01, "Tried bytes", as one table: what was tried, and document 01's answer. Each answer that a
--- constant could give has its contrast beside it.
+-- P1 to P12 of document 01, "Tried bytes", as one table: what was tried, and document 01's answer, a refusal with the offset
+-- of document 02's No. 6. Each answer that a constant could give has its contrast beside it.
 use mathlib.Core.List.{List, [], _∷_, _++_}
 use Prim.Native.Nat.{ℕ}
 use lib.ListN.{replicate}
 use Rattle.text.specs.Literal.{bytes}
 use Rattle.negotiation.specs.Written.{kexInit}
 use Rattle.tried.specs.Row.{Row, row}
-use Rattle.tried.specs.Trials.{refuses, needs, gives, writes, reads, opens, client, server, cookie, kexInitOf, settlesMacs, ignoresGuess}
+use Rattle.tried.specs.Trials.{refusesAt, needs, gives, writes, reads, opens, client, server, cookie, kexInitOf, settlesMacs, ignoresGuess}
 
 -- P10's body: `session`, 0, 2097152 and a maximum packet of 256 times m; then what follows
-abbrev session : ℕ → List ℕ → List ℕ
+abbrev pub session : ℕ → List ℕ → List ℕ
 session m more =
     0x00 ∷ 0x00 ∷ 0x00 ∷ 0x07 ∷ 0x73 ∷ 0x65 ∷ 0x73 ∷ 0x73 ∷ 0x69 ∷ 0x6F ∷ 0x6E
     ∷ 0x00 ∷ 0x00 ∷ 0x00 ∷ 0x00
@@ -54,25 +54,26 @@ packetRows =
     ∷ row "P2: payload 7: 4, 16" (writes 7) (gives (4 ∷ 16 ∷ []))
     ∷ row "P3: payload 8: 11, 24" (writes 8) (gives (11 ∷ 24 ∷ []))
     ∷ row "P4: 00 00 00 01 01: end 4, payload 0, takes 5" (reads (0 ∷ 0 ∷ 0 ∷ 1 ∷ 1 ∷ [])) (gives (4 ∷ 0 ∷ 5 ∷ []))
-    ∷ row "P5: 00 00 00 01 02: 7" (reads (0 ∷ 0 ∷ 0 ∷ 1 ∷ 2 ∷ [])) (refuses 7)
+    ∷ row "P5: 00 00 00 01 02: 7" (reads (0 ∷ 0 ∷ 0 ∷ 1 ∷ 2 ∷ [])) (refusesAt 7 4)
     ∷ row "P6: 00 00 00 00: end 4, takes 4" (reads (0 ∷ 0 ∷ 0 ∷ 0 ∷ [])) (gives (4 ∷ 0 ∷ 4 ∷ []))
     ∷ row "P7: 00 04 00 21 alone: need 262181" (reads (0x00 ∷ 0x04 ∷ 0x00 ∷ 0x21 ∷ [])) (needs 262181)
-    ∷ row "P8: 00 04 00 22: 4" (reads (0x00 ∷ 0x04 ∷ 0x00 ∷ 0x22 ∷ [])) (refuses 4)
+    ∷ row "P8: 00 04 00 22: 4" (reads (0x00 ∷ 0x04 ∷ 0x00 ∷ 0x22 ∷ [])) (refusesAt 4 0)
     ∷ []
 
 unfoldable pub shortRows : List Row
 shortRows =
-    row "P9: KEXINIT of 16 bytes: 6" (settlesMacs (server curve ctr noneLast) (20 ∷ replicate 15 7)) (refuses 6)
-    ∷ row "P9: of 17: 2" (settlesMacs (server curve ctr noneLast) (20 ∷ replicate 16 7)) (refuses 2)
+    row "P9: KEXINIT of 16 bytes: 6" (settlesMacs (server curve ctr noneLast) (20 ∷ replicate 15 7)) (refusesAt 6 0)
+    ∷ row "P9: of 17: 2" (settlesMacs (server curve ctr noneLast) (20 ∷ replicate 16 7)) (refusesAt 2 17)
     ∷ row "P10: 23 bytes: accepted" (opens (session 0x80 [])) (gives (1 ∷ 0 ∷ 2097152 ∷ 32768 ∷ []))
-    ∷ row "P10: with a byte more: 5" (opens (session 0x80 (0 ∷ []))) (refuses 5)
-    ∷ row "P10: that with maximum 0: 6" (opens (session 0x00 (0 ∷ []))) (refuses 6)
+    ∷ row "P10: with a byte more: 5" (opens (session 0x80 (0 ∷ []))) (refusesAt 5 23)
+    ∷ row "P10: that with maximum 0: 6" (opens (session 0x00 (0 ∷ []))) (refusesAt 6 19)
     ∷ []
 
+-- the client-to-server MAC list stands at 81: 17, and 4 + 17 of kex, 4 + 11 of key, 4 + 10 of each cipher list
 unfoldable pub ctrRows : List Row
 ctrRows =
-    row "P11: aes128-ctr: 13, at the client" (atClient ctr noneFirst noneLast) (refuses 13)
-    ∷ row "P11: aes128-ctr: 13, at the server" (atServer ctr noneFirst noneLast) (refuses 13)
+    row "P11: aes128-ctr: 13, at the client" (atClient ctr noneFirst noneLast) (refusesAt 13 81)
+    ∷ row "P11: aes128-ctr: 13, at the server" (atServer ctr noneFirst noneLast) (refusesAt 13 81)
     ∷ []
 
 unfoldable pub chacha20Rows : List Row
@@ -91,7 +92,7 @@ reversedRows =
 -- "MAC: no shared name gives `none` if the cipher needs no MAC, else 13"
 unfoldable pub unsharedRows : List Row
 unsharedRows =
-    row "no shared MAC, aes128-ctr: 13" (atServer ctr (4 ∷ []) (3 ∷ [])) (refuses 13)
+    row "no shared MAC, aes128-ctr: 13" (atServer ctr (4 ∷ []) (3 ∷ [])) (refusesAt 13 81)
     ∷ row "no shared MAC, chacha20: none" (atServer chacha20 (4 ∷ []) (3 ∷ [])) (gives (0 ∷ 0 ∷ []))
     ∷ []
 

@@ -10,7 +10,7 @@ use Rattle.judging.specs.Tables.{Tables, tables}
 use Rattle.negotiation.specs.Written.{writeKex}
 use Rattle.negotiation.specs.Read.{readKex}
 use Rattle.tried.specs.Row.{Row, row}
-use Rattle.tried.specs.Trials.{refuses, gives, answered, cookie}
+use Rattle.tried.specs.Trials.{refuses, refusesAt, gives, answered, cookie}
 
 -- tables put to the writer, whatever it then writes
 abbrev judged : Tables → List ℕ
@@ -120,9 +120,9 @@ readWith side kex = answered (λ n. gives []) (readKex (tables side kex [] [] []
 
 unfoldable pub readerRows : List Row
 readerRows =
-    row "an empty payload read with kex 12" (readWith Client (12 ∷ [])) (refuses 6)
-    ∷ row "with kex 13" (readWith Client (13 ∷ [])) bad
-    ∷ row "by a server with kex 13" (readWith Server (13 ∷ [])) bad
+    row "an empty payload read with kex 12" (readWith Client (12 ∷ [])) (refusesAt 6 0)
+    ∷ row "with kex 13" (readWith Client (13 ∷ [])) (refusesAt 9 0)
+    ∷ row "by a server with kex 13" (readWith Server (13 ∷ [])) (refusesAt 9 0)
     ∷ []
 
 abbrev pub tableRows : List Row

@@ -16,9 +16,13 @@ use Rattle.negotiation.specs.declared.Names.{Names}
 use Rattle.negotiation.specs.KexInit.{encoded}
 use Rattle.negotiation.specs.Read.{readKex}
 
--- An answer as numbers, so that two can be compared: what it is, then its values.
+-- An answer as numbers, so that two can be compared: what it is, then its values; of a refusal its number and its offset.
+abbrev pub refusesAt : ℕ → ℕ → List ℕ
+refusesAt n i = 0 ∷ n ∷ i ∷ []
+
+-- what is no reader's: a writer or a table of names has nothing to point into
 abbrev pub refuses : ℕ → List ℕ
-refuses n = 0 ∷ n ∷ []
+refuses n = refusesAt n 0
 
 abbrev pub needs : ℕ → List ℕ
 needs n = 1 ∷ n ∷ []
@@ -27,7 +31,7 @@ abbrev pub gives : List ℕ → List ℕ
 gives values = 2 ∷ values
 
 abbrev pub answered : {A : Type 0} → (A → List ℕ) → Out A → List ℕ
-answered f (refused r) = refuses (r .number)
+answered f (refused r) = refusesAt (r .number) (r .offset)
 answered f (done a) = f a
 
 abbrev pub flag : Bool → ℕ

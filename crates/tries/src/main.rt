@@ -1,6 +1,13 @@
 // The tried bytes of document 01 ("Tried bytes") through the code itself, a line for each, held to the file stdout: those
-// that are not in the proved table, and P1 to P10 once more.
-use answer::Refusal;
+// that are not in the proved table, and P1 to P10 once more. Then where a reader refuses (document 02, No. 6).
+mod print;
+
+use crate::print::hex;
+use crate::print::refused;
+use crate::print::refused_at;
+use crate::print::value;
+use crate::print::wide;
+use crate::print::words;
 use channels::GotOpen;
 use channels::OpenChannelMessage;
 use choice::Side;
@@ -17,31 +24,8 @@ const TOO_LARGE: usize = 262168;
 
 const LARGEST_PACKET: usize = 262176;
 
-fn wide(x: u8) -> u64 {
-    x as u64
-}
-
-fn words(s: &[u8]) {
-    io::write_all(1, s);
-}
-
-fn value(s: &[u8], n: u64) {
-    io::write_all(1, s);
-    io::print_decimal(1, n);
-}
-
-fn refused(r: Refusal) {
-    value(b": refused with ", wide(r.number));
-    words(b"\n");
-}
-
-fn hex(s: &[u8]) {
-    let mut i = 0;
-    while i < s.len() {
-        io::print_hex(1, wide(s[i]), 2);
-        i += 1;
-    }
-}
+// The identity of the server's key.
+const IDS: [u32; 1] = [1];
 
 fn padding(packet: &[u8]) -> u64 {
     if packet.len() < 5 {
@@ -62,7 +46,7 @@ fn writes(payload: &[u8], out: &mut [u8]) {
             hex(front(out, 6));
             words(b"\n");
         }
-        Sealed::Refused(r) => refused(r),
+        Sealed::Refused(number) => refused(number),
     }
 }
 
@@ -88,7 +72,7 @@ fn reads(s: &[u8]) {
             value(b", takes ", p.taken as u64);
             words(b"\n");
         }
-        GotPacket::Refused(r) => refused(r),
+        GotPacket::Refused(r) => refused_at(r),
     }
 }
 
@@ -106,7 +90,7 @@ fn packets() {
 }
 
 // KEXINIT. The lists are curve25519-sha256, ssh-ed25519, a cipher, hmac-sha2-256, none.
-fn client_writes(cipher: &[u8], ids: &[u32]) {
+fn client_writes(cipher: &[u8]) {
     let mut payload = [0u8; 256];
     let mut out = [0u8; 256];
     let w = kexinit::write_kex(
@@ -118,55 +102,111 @@ fn client_writes(cipher: &[u8], ids: &[u32]) {
         b"\x04",
         b"\x00",
         b"",
-        &ids[..0],
+        &IDS[..0],
         b"",
-        &ids[..0],
+        &IDS[..0],
         b"sixteen of them.",
         &mut payload,
     );
     match w {
         Put::Next(n) => writes(front(&payload, n), &mut out),
-        Put::Refused(r) => refused(r),
+        Put::Refused(number) => refused(number),
     }
 }
 
 fn kexinits() {
-    let ids = [1u32];
     words(b"KEXINIT with chacha20: ");
-    client_writes(b"\x0A", &ids);
+    client_writes(b"\x0A");
     words(b"KEXINIT with aes128-ctr: ");
-    client_writes(b"\x02", &ids);
+    client_writes(b"\x02");
 }
 
-// With one Ed25519 key, and aes128-ctr.
-fn server_reads(p: &[u8], ids: &[u32]) {
+// With one Ed25519 key.
+fn server_reads(cipher: &[u8], p: &[u8]) {
     value(b"KEXINIT of ", p.len() as u64);
     let got = negotiation::read_kex(
         Side::Server,
         b"\x01",
         b"\x00",
         b"",
-        b"\x02",
+        cipher,
         b"\x04",
         b"\x00",
         b"\x00",
-        ids,
+        &IDS,
         b"",
-        &ids[..0],
+        &IDS[..0],
         false,
         p,
     );
     match got {
         GotNames::Settled(_) => words(b": settled\n"),
-        GotNames::Refused(r) => refused(r),
+        GotNames::Refused(r) => refused_at(r),
     }
 }
 
 // P9.
 fn short_kexinits() {
-    let ids = [1u32];
-    server_reads(b"\x14sixteen of them", &ids);
-    server_reads(b"\x14sixteen of them.", &ids);
+    server_reads(b"\x02", b"\x14sixteen of them");
+    server_reads(b"\x02", b"\x14sixteen of them.");
+}
+
+fn chacha20_reads(p: &[u8]) {
+    server_reads(b"\x0A", p);
+}
+
+// Before and behind the key list's first byte, in its length; the whole; a byte more.
+fn cuts(p: &[u8]) {
+    chacha20_reads(front(p, 37));
+    chacha20_reads(front(p, 38));
+    chacha20_reads(front(p, 41));
+    chacha20_reads(front(p, 182));
+    chacha20_reads(p);
+}
+
+// A list that is bad, or shares no name: kex `a,,b` and `foo`, the second MAC list `none` under aes128-ctr, the second
+// compression list `zlib`.
+fn bad_lists() {
+    chacha20_reads(b"\x14sixteen of them.\x00\x00\x00\x04a,,b");
+    chacha20_reads(b"\x14sixteen of them.\x00\x00\x00\x03foo");
+    server_reads(
+        b"\x02",
+        b"\x14sixteen of them.\
+        \x00\x00\x00\x11curve25519-sha256\
+        \x00\x00\x00\x0Bssh-ed25519\
+        \x00\x00\x00\x0Aaes128-ctr\
+        \x00\x00\x00\x0Aaes128-ctr\
+        \x00\x00\x00\x0Dhmac-sha2-256\
+        \x00\x00\x00\x04none",
+    );
+    chacha20_reads(
+        b"\x14sixteen of them.\
+        \x00\x00\x00\x11curve25519-sha256\
+        \x00\x00\x00\x0Bssh-ed25519\
+        \x00\x00\x00\x1Dchacha20-poly1305@openssh.com\
+        \x00\x00\x00\x1Dchacha20-poly1305@openssh.com\
+        \x00\x00\x00\x0Dhmac-sha2-256\
+        \x00\x00\x00\x0Dhmac-sha2-256\
+        \x00\x00\x00\x04none\
+        \x00\x00\x00\x04zlib",
+    );
+}
+
+// On document 01's KEXINIT of 182 bytes.
+fn kexinit_offsets() {
+    cuts(
+        b"\x14sixteen of them.\
+        \x00\x00\x00\x11curve25519-sha256\
+        \x00\x00\x00\x0Bssh-ed25519\
+        \x00\x00\x00\x1Dchacha20-poly1305@openssh.com\
+        \x00\x00\x00\x1Dchacha20-poly1305@openssh.com\
+        \x00\x00\x00\x0Dhmac-sha2-256\
+        \x00\x00\x00\x0Dhmac-sha2-256\
+        \x00\x00\x00\x04none\
+        \x00\x00\x00\x04none\
+        \x00\x00\x00\x00\x00\x00\x00\x00\x00\x00\x00\x00\x00\x00",
+    );
+    bad_lists();
 }
 
 // Channel opening.
@@ -189,7 +229,7 @@ fn opens(body: &[u8]) {
             value(b", maximum packet ", m.recipient_maximum_packet_size as u64);
             words(b"\n");
         }
-        GotOpen::Refused(r) => refused(r),
+        GotOpen::Refused(r) => refused_at(r),
     }
 }
 
@@ -198,6 +238,16 @@ fn openings() {
     opens(b"\x00\x00\x00\x07session\x00\x00\x00\x00\x00\x20\x00\x00\x00\x00\x80\x00");
     opens(b"\x00\x00\x00\x07session\x00\x00\x00\x00\x00\x20\x00\x00\x00\x00\x80\x00\x00");
     opens(b"\x00\x00\x00\x07session\x00\x00\x00\x00\x00\x20\x00\x00\x00\x00\x00\x00\x00");
+}
+
+// `direct-tcpip`, maximum packet 1: host FF; host localhost, originator FF.
+fn opening_offsets() {
+    opens(
+        b"\x00\x00\x00\x0Cdirect-tcpip\x00\x00\x00\x00\x00\x00\x00\x00\x00\x00\x00\x01\x00\x00\x00\x01\xFF",
+    );
+    opens(
+        b"\x00\x00\x00\x0Cdirect-tcpip\x00\x00\x00\x00\x00\x00\x00\x00\x00\x00\x00\x01\x00\x00\x00\x09localhost\x00\x00\x00\x16\x00\x00\x00\x01\xFF",
+    );
 }
 
 fn unknown_type() {
@@ -211,7 +261,7 @@ fn unknown_type() {
             hex(front(&out, n));
             words(b"\n");
         }
-        Put::Refused(r) => refused(r),
+        Put::Refused(number) => refused(number),
     }
 }
 
@@ -222,4 +272,6 @@ fn main() {
     packets();
     short_kexinits();
     openings();
+    kexinit_offsets();
+    opening_offsets();
 }

@@ -8,7 +8,7 @@ abbrev Inv-loop : tie.InvT-loop
 Inv-loop counts i₀ t3 t4 i = Unit
 
 abbrev μ-loop : tie.MeasureT-loop
-μ-loop counts i₀ t3 t4 i = 136 - i
+μ-loop counts i₀ t3 t4 i = 153 - i
 
 pub table-spec : {M : Type 1} → statement M
 table-spec =

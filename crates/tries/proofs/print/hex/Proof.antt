@@ -1,9 +1,9 @@
--- `tries::hex`: the index stays within the slice. Assumes nothing.
+-- `tries::print::hex`: the index stays within the slice. Assumes nothing.
 use Prim.Native.Nat.{_-_}
 use lib.ListN.{length}
 use borrow.Author.Needs.{needs}
-use Rattle.tries.proofs.hex.Statement.{statement}
-use Rattle.tries.proofs.hex.Tie as tie
+use Rattle.tries.proofs.print.hex.Statement.{statement}
+use Rattle.tries.proofs.print.hex.Tie as tie
 
 abbrev Inv-loop : tie.InvT-loop
 Inv-loop s i₀ i = Unit
