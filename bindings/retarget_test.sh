@@ -64,12 +64,14 @@ given 'define noundef ptr @f(ptr noundef %a0, ptr noundef %a1) #0 {' '  ret ptr 
 refused "$all"
 
 # an answer of 9 to 16 bytes
-given 'define { i64, i32 } @f(i8 noundef %a0) #0 {' '  %r1 = load { i64, i32 }, ptr %r0, align 1' '  ret { i64, i32 } %r1'
-comes 'aarch64 riscv64'
-becomes armv7 'define void @f(ptr noundef sret(i8) %answer, i8 noundef %a0) #0 {' \
-    '  %r1 = load { i64, i32 }, ptr %r0, align 1' '  store { i64, i32 } %r1, ptr %answer, align 1' '  ret void'
-given 'define { i64, i32 } @f(i8 noundef %a0) #0 {' '  ret { i64, i32 } %r1'
-refused armv7
+for answer in '{ i64, i8 }' '{ i64, i32 }' '{ i64, i64 }'; do
+    given "define $answer @f(i8 noundef %a0) #0 {" "  %r1 = load $answer, ptr %r0, align 1" "  ret $answer %r1"
+    comes 'aarch64 riscv64'
+    becomes armv7 'define void @f(ptr noundef sret(i8) %answer, i8 noundef %a0) #0 {' \
+        "  %r1 = load $answer, ptr %r0, align 1" "  store $answer %r1, ptr %answer, align 1" '  ret void'
+    given "define $answer @f(i8 noundef %a0) #0 {" "  ret $answer %r1"
+    refused armv7
+done
 
 # one of up to 8, and one of up to 4
 given 'define i64 @f(i8 noundef %a0) #0 {' '  ret i64 %r1'

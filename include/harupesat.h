@@ -9,8 +9,8 @@
  *
  * Slices are a pointer and a count of elements; an empty one may be null. Nothing is kept or allocated: an answer is a
  * struct by value, and a text in it is a place in the bytes that the caller lent. Any bytes, numbers, tables and
- * lengths get an answer. A refusal has what == HARUPESAT_REFUSED, its number from the table below, and 0 in every other
- * field; it has changed no byte of `out`.
+ * lengths get an answer. A refusal has what == HARUPESAT_REFUSED, its number from the table below, a reader's also the
+ * offset at which the offending field starts, and 0 in every other field; it has changed no byte of `out`.
  *
  * What the caller must see to, since nothing here can: that each pointer has so many elements behind it, that `out`
  * overlaps no other slice, and that nothing else writes to lent bytes during the call.
@@ -63,6 +63,19 @@ enum {
     HARUPESAT_NO_COMPRESSION = 14
 };
 
+/* Where a reader was refused: `offset`, counted from the first byte of the payload or body that was lent, in framing from
+ * the packet's.
+ *
+ *     2, 3       the first byte of the field, which is its length's; of a name-list too, whichever name offends. It may
+ *                be one past the last byte: the field that is missing
+ *     5          the first byte left over
+ *     6          the maximum packet size's field; 0 for a short KEXINIT
+ *     7          4, the padding's byte
+ *     10 to 14   the length of the peer's list; of 13 and 14 the list of the direction that failed
+ *     1, 4, 8, 9, and 2 of a place outside the slice: 0
+ *
+ * Writers' answers (harupesat_written, harupesat_sealed) and those about numbers of names have none. */
+
 /* Whose table a name's number counts in. A certificate's number is its key's. */
 enum {
     HARUPESAT_KEX = 0,         /* 13 names */
@@ -93,6 +106,7 @@ enum {
 typedef struct {
     uint8_t what;          /* REFUSED, DONE or NEED */
     uint8_t number;
+    harupesat_size offset; /* REFUSED: where */
     harupesat_size need;   /* NEED: so many bytes in all */
     harupesat_size start;  /* the payload: s[start .. start + len] */
     harupesat_size len;
@@ -155,6 +169,7 @@ harupesat_written harupesat_write_kex(bool server,
 typedef struct {
     uint8_t what;
     uint8_t number;
+    harupesat_size offset;
     uint8_t kex;                 /* numbers of their kinds */
     uint8_t key;                 /* the plain key's, also where a certificate's name was chosen */
     uint8_t cipher;
@@ -197,6 +212,7 @@ harupesat_names harupesat_read_kex(bool server,
 typedef struct {
     uint8_t what;
     uint8_t number;
+    harupesat_size offset;
     uint8_t typ;
     uint32_t recipient_channel;              /* the sender's number: the recipient of the answer */
     uint32_t recipient_window_size;
@@ -217,6 +233,7 @@ harupesat_open harupesat_read_open(const uint8_t *body, harupesat_size body_len)
 typedef struct {
     uint8_t what;
     uint8_t number;
+    harupesat_size offset;
     uint32_t recipient_channel;
     uint32_t sender_channel;
     uint32_t initial_window_size;
@@ -238,6 +255,7 @@ harupesat_written harupesat_unknown_type(uint32_t recipient, uint8_t *out, harup
 typedef struct {
     uint8_t what;
     uint8_t number;
+    harupesat_size offset; /* always 0: a place is no field */
     harupesat_size start;  /* s[start .. start + len] may be shown */
     harupesat_size len;
 } harupesat_shown;

@@ -9,7 +9,6 @@
 
 #include <stdio.h>
 #include <stdlib.h>
-#include <string.h>
 
 /* A preference list of each kind. */
 struct side {
@@ -25,6 +24,13 @@ static const uint32_t key_ids[] = {1};
 static void stop_at(const char *what, uint8_t number)
 {
     fprintf(stderr, "%s: refused with %d\n", what, number);
+    exit(EXIT_FAILURE);
+}
+
+/* A reader's refusal says where, too. */
+static void stop_reading(const char *what, uint8_t number, harupesat_size offset)
+{
+    fprintf(stderr, "%s: refused with %d at byte %llu\n", what, number, (unsigned long long)offset);
     exit(EXIT_FAILURE);
 }
 
@@ -64,10 +70,10 @@ static harupesat_names settle(const struct side *side, const uint8_t *packet, ha
 {
     harupesat_frame frame = harupesat_frame_read(packet, packet_len, 0, 0);
     if (frame.what != HARUPESAT_DONE)
-        stop_at("frame_read", frame.number);
+        stop_reading("frame_read", frame.number, frame.offset);
     harupesat_names names = harupesat_read_kex(LISTS(side), false, packet + frame.start, frame.len);
     if (names.what == HARUPESAT_REFUSED)
-        stop_at("read_kex", names.number);
+        stop_reading("read_kex", names.number, names.offset);
     return names;
 }
 
@@ -94,6 +100,14 @@ static void print_names(const char *side, harupesat_names n)
     printf("  %-22s%s\n", "ignore the guess", n.ignore_guessed ? "yes" : "no");
 }
 
+static bool equal(harupesat_names a, harupesat_names b)
+{
+    return a.kex == b.kex && a.key == b.key && a.cipher == b.cipher && a.client_mac == b.client_mac &&
+           a.server_mac == b.server_mac && a.client_compression == b.client_compression &&
+           a.server_compression == b.server_compression && a.host_key_is_certificate == b.host_key_is_certificate &&
+           a.ignore_guessed == b.ignore_guessed && a.strict_kex == b.strict_kex;
+}
+
 int main(void)
 {
     const uint8_t client_cookie[16] = "not random: one", server_cookie[16] = "not random: two";
@@ -105,8 +119,7 @@ int main(void)
     harupesat_names server_names = settle(&server, client_packet, client_len);
     print_names("client", client_names);
     print_names("server", server_names);
-    /* the struct is twelve single bytes: nothing stands between them */
-    bool equal = memcmp(&client_names, &server_names, sizeof client_names) == 0;
-    printf("%s\n", equal ? "both ends agree" : "the two ends differ");
-    return equal ? EXIT_SUCCESS : EXIT_FAILURE;
+    bool agree = equal(client_names, server_names);
+    printf("%s\n", agree ? "both ends agree" : "the two ends differ");
+    return agree ? EXIT_SUCCESS : EXIT_FAILURE;
 }

@@ -20,9 +20,9 @@ static void p10(void)
           (harupesat_open){.what = DONE, .typ = HARUPESAT_SESSION, .recipient_window_size = 2097152,
                            .recipient_maximum_packet_size = 32768});
     opens("P10 with a byte more", BYTES("\0\0\0\x07" "session" "\0\0\0\0" "\0\x20\0\0" "\0\0\x80\0" "\0"),
-          (harupesat_open){.number = 5});
+          (harupesat_open){.number = 5, .offset = 23});
     opens("P10 with a byte more and maximum 0", BYTES("\0\0\0\x07" "session" "\0\0\0\0" "\0\x20\0\0" "\0\0\0\0" "\0"),
-          (harupesat_open){.number = 6});
+          (harupesat_open){.number = 6, .offset = 19});
 }
 
 static void types(void)
@@ -57,12 +57,12 @@ static void open_refusals(void)
     static uint8_t body[262176];
     opens("a type past the end", BYTES("\0\0\0\x08" "session"), (harupesat_open){.number = 2});
     opens("a type that is not UTF-8", BYTES("\0\0\0\x02" "\xc3\x28" OFFER), (harupesat_open){.number = 3});
-    opens("a number cut short", BYTES("\0\0\0\x07" "session" "\0\0\0"), (harupesat_open){.number = 2});
+    opens("a number cut short", BYTES("\0\0\0\x07" "session" "\0\0\0"), (harupesat_open){.number = 2, .offset = 11});
     opens("an address that is not UTF-8", BYTES("\0\0\0\x03" "x11" OFFER "\0\0\0\x01" "\x80" "\0\0\0\0"),
-          (harupesat_open){.number = 3});
+          (harupesat_open){.number = 3, .offset = 19});
     opens("a reserved string that is not UTF-8",
           BYTES("\0\0\0\x21" "forwarded-streamlocal@openssh.com" OFFER "\0\0\0\0" "\0\0\0\x01" "\xff"),
-          (harupesat_open){.number = 3});
+          (harupesat_open){.number = 3, .offset = 53});
     memcpy(body, "\0\0\0\0" OFFER, 16);
     opens("the longest body", LENT(body, 262175),
           (harupesat_open){OFFERED, .typ = 7, .text_start = 4, .rest_start = 16, .rest_len = 262159});
@@ -82,9 +82,9 @@ static void confirmations(void)
                                              .initial_window_size = 2, .maximum_packet_size = 3});
     trying("a confirmation cut short");
     is_confirmation(harupesat_read_confirmation(BYTES("\0\0\0\x05" "\0\0\0\x01" "\0\0\0\x02" "\0\0\0")),
-                    (harupesat_confirmation){.number = 2});
+                    (harupesat_confirmation){.number = 2, .offset = 12});
     trying("a confirmation with maximum 0");
-    is_confirmation(harupesat_read_confirmation(LENT(zeros, 262175)), (harupesat_confirmation){.number = 6});
+    is_confirmation(harupesat_read_confirmation(LENT(zeros, 262175)), (harupesat_confirmation){.number = 6, .offset = 12});
     trying("a confirmation that is too long");
     is_confirmation(harupesat_read_confirmation(LENT(zeros, 262176)), (harupesat_confirmation){.number = 1});
 }

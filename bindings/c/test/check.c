@@ -54,6 +54,7 @@ void is_frame(harupesat_frame got, harupesat_frame want)
 {
     SAME(what);
     SAME(number);
+    SAME(offset);
     SAME(need);
     SAME(start);
     SAME(len);
@@ -83,6 +84,7 @@ void is_names(harupesat_names got, harupesat_names want)
 {
     SAME(what);
     SAME(number);
+    SAME(offset);
     SAME(kex);
     SAME(key);
     SAME(cipher);
@@ -99,6 +101,7 @@ void is_open(harupesat_open got, harupesat_open want)
 {
     SAME(what);
     SAME(number);
+    SAME(offset);
     SAME(typ);
     SAME(recipient_channel);
     SAME(recipient_window_size);
@@ -117,6 +120,7 @@ void is_confirmation(harupesat_confirmation got, harupesat_confirmation want)
 {
     SAME(what);
     SAME(number);
+    SAME(offset);
     SAME(recipient_channel);
     SAME(sender_channel);
     SAME(initial_window_size);
@@ -127,6 +131,7 @@ void is_shown(harupesat_shown got, harupesat_shown want)
 {
     SAME(what);
     SAME(number);
+    SAME(offset);
     SAME(start);
     SAME(len);
 }

@@ -43,6 +43,7 @@ void layout(void);
 void frames(void);
 void kexinits(void);
 void kex_refusals(void);
+void offsets(void);
 void channels(void);
 void names(void);
 void nulls(void);

@@ -71,7 +71,7 @@ static void tried_bytes(void)
     is_frame(harupesat_frame_read(BYTES("\0\0\0\x01\x01"), 7, 9),
              (harupesat_frame){.what = DONE, .start = 4, .end = 4, .taken = 5, .seqn = 8, .bytes = 9});
     trying("P5");
-    is_frame(harupesat_frame_read(BYTES("\0\0\0\x01\x02"), 7, 9), (harupesat_frame){.number = 7});
+    is_frame(harupesat_frame_read(BYTES("\0\0\0\x01\x02"), 7, 9), (harupesat_frame){.number = 7, .offset = 4});
     trying("P6");
     is_frame(harupesat_frame_read(BYTES("\0\0\0\0"), 7, 9),
              (harupesat_frame){.what = DONE, .start = 4, .end = 4, .taken = 4, .seqn = 8, .bytes = 9});

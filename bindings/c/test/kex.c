@@ -70,7 +70,7 @@ static void put_string(const char *s)
     put(s, len);
 }
 
-harupesat_names read_peer(struct tables t, bool strict_agreed, struct peer p)
+static void put_kexinit(struct peer p)
 {
     payload_len = 0;
     put("\x14" "a peer's cookie.", 17);
@@ -86,5 +86,18 @@ harupesat_names read_peer(struct tables t, bool strict_agreed, struct peer p)
     put_string(p.language[1]);
     put(&p.follows, 1);
     put("\0\0\0\0", 4);
+}
+
+harupesat_names read_peer(struct tables t, bool strict_agreed, struct peer p)
+{
+    put_kexinit(p);
     return read_kex(t, strict_agreed, LENT(payload, payload_len));
+}
+
+harupesat_names read_of_length(struct tables t, struct peer p, size_t len)
+{
+    put_kexinit(p);
+    while (payload_len < len)
+        put("", 1);
+    return read_kex(t, false, LENT(payload, len));
 }

@@ -46,6 +46,8 @@ struct peer {
 /* curve25519-sha256, ssh-ed25519, chacha20-poly1305@openssh.com, hmac-sha2-256, none. */
 struct peer plain_peer(void);
 harupesat_names read_peer(struct tables t, bool strict_agreed, struct peer p);
+/* The same KEXINIT cut to a length, or filled up to it with bytes 0. */
+harupesat_names read_of_length(struct tables t, struct peer p, size_t len);
 
 enum { CHACHA20 = 10, AES128_CTR = 2 };
 

@@ -1,12 +1,14 @@
-/* KEXINIT refused: each number of `read_kex` and `write_kex`, and their order. */
+/* KEXINIT refused: each number of `read_kex` and `write_kex`, and their order. A plain peer's fields start at 17, 38, 53,
+ * 86, 119, 136, 153, 161, 169, 173, 177 and 178. */
 #include "kex.h"
 
 #include <string.h>
 
-static void refuses(const char *what, struct tables t, struct peer p, uint8_t number)
+static void refuses(const char *what, struct tables t, struct peer p, uint8_t number,
+                    harupesat_size offset)
 {
     trying(what);
-    is_names(read_peer(t, false, p), (harupesat_names){.number = number});
+    is_names(read_peer(t, false, p), (harupesat_names){.number = number, .offset = offset});
 }
 
 /* One field of a plain peer's, spoilt. */
@@ -18,20 +20,20 @@ static void fields(void)
     for (size_t i = 0; i < 1026; i++)
         memcpy(many + 2 * i, "a,", 2);
     p.kex = long_list;
-    refuses("a name-list of 16,385 bytes", client(CHACHA20), p, 2);
+    refuses("a name-list of 16,385 bytes", client(CHACHA20), p, 2, 17);
     long_list[16384] = 0;
-    refuses("a name-list of 16,384 bytes", client(CHACHA20), p, 10);
+    refuses("a name-list of 16,384 bytes", client(CHACHA20), p, 10, 17);
     p.kex = many;
-    refuses("1,026 names", client(CHACHA20), p, 2);
+    refuses("1,026 names", client(CHACHA20), p, 2, 17);
     many[2 * 1025] = 0;
-    refuses("1,025 names and a comma", client(CHACHA20), p, 10);
+    refuses("1,025 names and a comma", client(CHACHA20), p, 10, 17);
     p.kex = "curve25519-sha256,,";
-    refuses("an empty name", client(CHACHA20), p, 3);
+    refuses("an empty name", client(CHACHA20), p, 3, 17);
     p.kex = "curve25519-sha256,\xc3\xa9";
-    refuses("a name that is not ASCII", client(CHACHA20), p, 3);
+    refuses("a name that is not ASCII", client(CHACHA20), p, 3, 17);
     p = plain_peer();
     p.cipher[1] = "\xff";
-    refuses("the string that is not used, not UTF-8", client(CHACHA20), p, 3);
+    refuses("the string that is not used, not UTF-8", client(CHACHA20), p, 3, 86);
     p.cipher[1] = "\xc3\xa9,,";
     trying("the string that is not used, UTF-8");
     is("what", read_peer(client(CHACHA20), false, p).what, DONE);
@@ -41,22 +43,22 @@ static void no_choice(void)
 {
     struct peer p = plain_peer();
     p.kex = "ecdh-sha2-nistp256";
-    refuses("no shared kex", client(CHACHA20), p, 10);
+    refuses("no shared kex", client(CHACHA20), p, 10, 17);
     p = plain_peer();
     p.key = "ssh-ed25519-cert-v01@openssh.com";
-    refuses("no shared key", client(CHACHA20), p, 11);
+    refuses("no shared key", client(CHACHA20), p, 11, 38);
     p = plain_peer();
     p.cipher[0] = "aes128-ctr";
-    refuses("no shared cipher", client(CHACHA20), p, 12);
+    refuses("no shared cipher", client(CHACHA20), p, 12, 53);
     p = plain_peer();
     p.cipher[0] = "aes128-ctr";
     p.mac[1] = "hmac-sha1";
-    refuses("no shared MAC", client(AES128_CTR), p, 13);
+    refuses("no shared MAC", client(AES128_CTR), p, 13, 117);
     p = plain_peer();
     p.compression[1] = "zlib";
-    refuses("no shared compression", client(CHACHA20), p, 14);
+    refuses("no shared compression", client(CHACHA20), p, 14, 161);
     p.language[0] = "\xff";
-    refuses("14 before the fields after it", client(CHACHA20), p, 14);
+    refuses("14 before the fields after it", client(CHACHA20), p, 14, 161);
 }
 
 /* P9, the longest payload and a byte more, bytes after the end. */
@@ -66,17 +68,17 @@ static void lengths(void)
     trying("P9, 16 bytes");
     is_names(read_kex(client(CHACHA20), false, LENT(zeros, 16)), (harupesat_names){.number = 6});
     trying("P9, 17 bytes");
-    is_names(read_kex(client(CHACHA20), false, LENT(zeros, 17)), (harupesat_names){.number = 2});
+    is_names(read_kex(client(CHACHA20), false, LENT(zeros, 17)), (harupesat_names){.number = 2, .offset = 17});
     trying("262,176 bytes");
-    is_names(read_kex(client(CHACHA20), false, LENT(zeros, 262176)), (harupesat_names){.number = 10});
+    is_names(read_kex(client(CHACHA20), false, LENT(zeros, 262176)), (harupesat_names){.number = 10, .offset = 17});
     trying("262,177 bytes");
     is_names(read_kex(client(CHACHA20), false, LENT(zeros, 262177)), (harupesat_names){.number = 1});
     trying("a byte after the end");
     uint8_t *out = lend(4096);
     harupesat_written w = write_kex(client(CHACHA20), BYTES("sixteen of them."), out, 4096);
-    is_names(read_kex(server(CHACHA20), false, LENT(out, w.len + 1)), (harupesat_names){.number = 5});
+    is_names(read_kex(server(CHACHA20), false, LENT(out, w.len + 1)), (harupesat_names){.number = 5, .offset = 182});
     trying("a byte short");
-    is_names(read_kex(server(CHACHA20), false, LENT(out, w.len - 1)), (harupesat_names){.number = 2});
+    is_names(read_kex(server(CHACHA20), false, LENT(out, w.len - 1)), (harupesat_names){.number = 2, .offset = 178});
 }
 
 /* 9 of the writer and of the reader, before 8 and 6. */

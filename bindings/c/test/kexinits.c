@@ -159,7 +159,7 @@ static void p11(void)
     t = server(AES128_CTR);
     t.mac = NUMBERS(4, 0);
     p.cipher[0] = "aes128-ctr";
-    reads("P11 with aes128-ctr", t, p, (harupesat_names){.number = 13});
+    reads("P11 with aes128-ctr", t, p, (harupesat_names){.number = 13, .offset = 100});
 }
 
 /* P12; the second list ignores the guess too (docs/DIFFERENCES.md, C1), and the third does not. */

@@ -9,6 +9,7 @@ static void calls(enum edge where)
     frames();
     kexinits();
     kex_refusals();
+    offsets();
     channels();
     names();
     nulls();

@@ -16,8 +16,8 @@ static void frame(void)
     is_sealed(harupesat_frame_write(BYTES("abc"), 3, 4, NULL, 0), (harupesat_sealed){.number = 8});
 }
 
-/* The KEXINIT of 182 bytes is so much shorter, and reading its like refuses with this number or settles. */
-static void list(const char *what, struct tables t, size_t shorter, uint8_t number)
+/* The KEXINIT of 182 bytes is so much shorter, and reading its like refuses with this number at this offset, or settles. */
+static void list(const char *what, struct tables t, size_t shorter, uint8_t number, harupesat_size offset)
 {
     trying(what);
     uint8_t *out = lend(4096);
@@ -25,6 +25,7 @@ static void list(const char *what, struct tables t, size_t shorter, uint8_t numb
     harupesat_names got = read_peer(t, false, plain_peer());
     is("what", got.what, number == 0 ? DONE : REFUSED);
     is("number", got.number, number);
+    is("offset", got.offset, offset);
 }
 
 static const struct numbers none;
@@ -33,14 +34,14 @@ static const struct identities nobody;
 static void lists(void)
 {
     struct tables t;
-    list("null: kex", (t = client(CHACHA20), t.kex = none, t), 17, 10);
-    list("null: key", (t = client(CHACHA20), t.key = none, t), 11, 11);
-    list("null: certificate", (t = client(CHACHA20), t.certificate = none, t), 0, 0);
-    list("null: cipher", (t = client(CHACHA20), t.cipher = none, t), 58, 12);
-    list("null: MAC", (t = client(CHACHA20), t.mac = none, t), 26, 0);
-    list("null: compression", (t = client(CHACHA20), t.compression = none, t), 8, 14);
-    list("null: certificate rows", (t = server(CHACHA20), t.cert_kinds = none, t.cert_ids = nobody, t), 0, 0);
-    list("null: key rows", (t = server(CHACHA20), t.key_kinds = none, t.key_ids = nobody, t), 11, 11);
+    list("null: kex", (t = client(CHACHA20), t.kex = none, t), 17, 10, 17);
+    list("null: key", (t = client(CHACHA20), t.key = none, t), 11, 11, 38);
+    list("null: certificate", (t = client(CHACHA20), t.certificate = none, t), 0, 0, 0);
+    list("null: cipher", (t = client(CHACHA20), t.cipher = none, t), 58, 12, 53);
+    list("null: MAC", (t = client(CHACHA20), t.mac = none, t), 26, 0, 0);
+    list("null: compression", (t = client(CHACHA20), t.compression = none, t), 8, 14, 153);
+    list("null: certificate rows", (t = server(CHACHA20), t.cert_kinds = none, t.cert_ids = nobody, t), 0, 0, 0);
+    list("null: key rows", (t = server(CHACHA20), t.key_kinds = none, t.key_ids = nobody, t), 11, 11, 38);
 }
 
 static void kex(void)
@@ -65,7 +66,7 @@ static void kex(void)
     trying("null: everything");
     out = lend(62);
     is_written(write_kex((struct tables){0}, COOKIE, out, 62), (harupesat_written){.what = DONE, .len = 62});
-    is_names(read_peer((struct tables){0}, false, plain_peer()), (harupesat_names){.number = 10});
+    is_names(read_peer((struct tables){0}, false, plain_peer()), (harupesat_names){.number = 10, .offset = 17});
 }
 
 static void channel(void)

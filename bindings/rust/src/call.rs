@@ -1,5 +1,5 @@
 //! The library's functions over slices, and every unsafe call (`ffi` declares them). Each hands back the library's
-//! answer, or the refusal that it carries.
+//! answer, or the refusal that it carries: of what reads with its offset.
 //!
 //! Why every call here is sound: each pointer and count are those of one slice; an output is borrowed mutably, so it
 //! overlaps no other slice and nobody else writes to it; and the library, as is proved of it, ends, reads and writes inside
@@ -7,8 +7,8 @@
 
 use crate::ffi::*;
 use crate::packet::Counters;
-use crate::refusal::Refusal;
-use crate::size::widen;
+use crate::refusal::{ReadRefusal, Refusal};
+use crate::size::{narrow, widen};
 use crate::tables::{Side, Tables};
 
 macro_rules! judged {
@@ -18,10 +18,22 @@ macro_rules! judged {
     }};
 }
 
+macro_rules! judged_reading {
+    ($call:expr) => {{
+        let answer = $call;
+        if answer.what == REFUSED { Err(refusal(answer.number).at(offset(answer.offset))) } else { Ok(answer) }
+    }};
+}
+
 fn refusal(number: u8) -> Refusal {
     Refusal::from_number(number).unwrap_or_else(|| {
         panic!("the library refuses with {number}, which is new: this wrapper is older than the library")
     })
+}
+
+/// An offset is at most its slice's length, and so it fits. One that does not stays larger than any.
+fn offset(offset: Size) -> usize {
+    narrow(offset).unwrap_or(usize::MAX)
 }
 
 /// How many elements a slice has.
@@ -29,8 +41,8 @@ fn count<T>(s: &[T]) -> Size {
     widen(s.len())
 }
 
-pub fn frame_read(s: &[u8], k: Counters) -> Result<Frame, Refusal> {
-    judged!(unsafe { harupesat_frame_read(s.as_ptr(), count(s), k.seqn, k.bytes) })
+pub fn frame_read(s: &[u8], k: Counters) -> Result<Frame, ReadRefusal> {
+    judged_reading!(unsafe { harupesat_frame_read(s.as_ptr(), count(s), k.seqn, k.bytes) })
 }
 
 pub fn frame_write(payload: &[u8], k: Counters, out: &mut [u8]) -> Result<Sealed, Refusal> {
@@ -61,8 +73,8 @@ pub fn write_kex(t: &Tables, cookie: &[u8], out: &mut [u8]) -> Result<Written, R
 }
 
 #[rustfmt::skip]
-pub fn read_kex(t: &Tables, strict_agreed: bool, payload: &[u8]) -> Result<Names, Refusal> {
-    judged!(unsafe {
+pub fn read_kex(t: &Tables, strict_agreed: bool, payload: &[u8]) -> Result<Names, ReadRefusal> {
+    judged_reading!(unsafe {
         harupesat_read_kex(
             t.side == Side::Server,
             t.kex.as_ptr(), count(&t.kex),
@@ -81,12 +93,12 @@ pub fn read_kex(t: &Tables, strict_agreed: bool, payload: &[u8]) -> Result<Names
     })
 }
 
-pub fn read_open(body: &[u8]) -> Result<Open, Refusal> {
-    judged!(unsafe { harupesat_read_open(body.as_ptr(), count(body)) })
+pub fn read_open(body: &[u8]) -> Result<Open, ReadRefusal> {
+    judged_reading!(unsafe { harupesat_read_open(body.as_ptr(), count(body)) })
 }
 
-pub fn read_confirmation(body: &[u8]) -> Result<Confirmation, Refusal> {
-    judged!(unsafe { harupesat_read_confirmation(body.as_ptr(), count(body)) })
+pub fn read_confirmation(body: &[u8]) -> Result<Confirmation, ReadRefusal> {
+    judged_reading!(unsafe { harupesat_read_confirmation(body.as_ptr(), count(body)) })
 }
 
 pub fn fail(recipient: u32, reason: u8, text: &[u8], out: &mut [u8]) -> Result<Written, Refusal> {
@@ -97,8 +109,8 @@ pub fn unknown_type(recipient: u32, out: &mut [u8]) -> Result<Written, Refusal> 
     judged!(unsafe { harupesat_unknown_type(recipient, out.as_mut_ptr(), count(out)) })
 }
 
-pub fn show(s: &[u8], start: Size, len: Size) -> Result<Shown, Refusal> {
-    judged!(unsafe { harupesat_show(s.as_ptr(), count(s), start, len) })
+pub fn show(s: &[u8], start: Size, len: Size) -> Result<Shown, ReadRefusal> {
+    judged_reading!(unsafe { harupesat_show(s.as_ptr(), count(s), start, len) })
 }
 
 pub fn spelling(kind: u8, number: u8, out: &mut [u8]) -> Result<Written, Refusal> {

@@ -1,5 +1,5 @@
 use crate::part::{front, part, show_text};
-use crate::refusal::Refusal;
+use crate::refusal::{ReadRefusal, Refusal};
 use crate::{call, ffi};
 
 /// A peer's wish to open a channel (CHANNEL_OPEN, RFC 4254 section 5.1). Its texts are parts of the body that was read.
@@ -70,7 +70,7 @@ pub struct TcpChannelInfo<'a> {
 /// # Errors
 /// [`Refusal::TooLong`]; then, in the order of the fields, [`Refusal::PastEnd`], [`Refusal::NotUtf8`],
 /// [`Refusal::Inconsistent`] and [`Refusal::Trailing`].
-pub fn read_open(body: &[u8]) -> Result<ChannelOpen<'_>, Refusal> {
+pub fn read_open(body: &[u8]) -> Result<ChannelOpen<'_>, ReadRefusal> {
     let open = call::read_open(body)?;
     Ok(ChannelOpen {
         typ: typ(&open, body)?,
@@ -80,7 +80,7 @@ pub fn read_open(body: &[u8]) -> Result<ChannelOpen<'_>, Refusal> {
     })
 }
 
-fn typ<'a>(open: &ffi::Open, body: &'a [u8]) -> Result<ChannelType<'a>, Refusal> {
+fn typ<'a>(open: &ffi::Open, body: &'a [u8]) -> Result<ChannelType<'a>, ReadRefusal> {
     let text = show_text(body, open.text_start, open.text_len)?;
     let originator_address = show_text(body, open.originator_start, open.originator_len)?;
     let originator_port = open.originator_port;
@@ -115,7 +115,7 @@ pub struct Confirmation {
 ///
 /// # Errors
 /// [`Refusal::TooLong`], [`Refusal::PastEnd`] and [`Refusal::Inconsistent`].
-pub fn read_confirmation(body: &[u8]) -> Result<Confirmation, Refusal> {
+pub fn read_confirmation(body: &[u8]) -> Result<Confirmation, ReadRefusal> {
     let confirmation = call::read_confirmation(body)?;
     Ok(Confirmation {
         recipient_channel: confirmation.recipient_channel,

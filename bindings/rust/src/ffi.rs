@@ -21,6 +21,7 @@ pub const UNKNOWN: u8 = 3;
 pub struct Frame {
     pub what: u8,
     pub number: u8,
+    pub offset: Size,
     pub need: Size,
     pub start: Size,
     pub len: Size,
@@ -54,6 +55,7 @@ pub struct Written {
 pub struct Names {
     pub what: u8,
     pub number: u8,
+    pub offset: Size,
     pub kex: u8,
     pub key: u8,
     pub cipher: u8,
@@ -71,6 +73,7 @@ pub struct Names {
 pub struct Open {
     pub what: u8,
     pub number: u8,
+    pub offset: Size,
     pub typ: u8,
     pub recipient_channel: u32,
     pub recipient_window_size: u32,
@@ -90,6 +93,7 @@ pub struct Open {
 pub struct Confirmation {
     pub what: u8,
     pub number: u8,
+    pub offset: Size,
     pub recipient_channel: u32,
     pub sender_channel: u32,
     pub initial_window_size: u32,
@@ -101,6 +105,7 @@ pub struct Confirmation {
 pub struct Shown {
     pub what: u8,
     pub number: u8,
+    pub offset: Size,
     pub start: Size,
     pub len: Size,
 }

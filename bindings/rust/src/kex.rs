@@ -1,7 +1,8 @@
 use crate::call;
-use crate::name::{CipherName, CompressionName, KexName, KeyName, MacName};
+use crate::kind::Kind;
+use crate::name::{CipherName, CompressionName, KexName, KeyName, MacName, Name};
 use crate::part::front;
-use crate::refusal::Refusal;
+use crate::refusal::{ReadRefusal, Refusal};
 use crate::tables::Tables;
 
 /// An output of so many bytes is enough for any KEXINIT.
@@ -64,19 +65,24 @@ impl Tables {
     /// [`Refusal::BadTable`], [`Refusal::TooLong`], [`Refusal::Inconsistent`]; then, in the order of the fields,
     /// [`Refusal::PastEnd`], [`Refusal::NotUtf8`], [`Refusal::NoKex`], [`Refusal::NoKey`], [`Refusal::NoCipher`],
     /// [`Refusal::NoMac`], [`Refusal::NoCompression`] and [`Refusal::Trailing`].
-    pub fn read_kex(&self, strict_agreed: bool, payload: &[u8]) -> Result<Names, Refusal> {
+    pub fn read_kex(&self, strict_agreed: bool, payload: &[u8]) -> Result<Names, ReadRefusal> {
         let names = call::read_kex(self, strict_agreed, payload)?;
         Ok(Names {
-            kex: KexName::from_number(names.kex)?,
-            key: KeyName::from_number(names.key)?,
-            cipher: CipherName::from_number(names.cipher)?,
-            client_mac: MacName::from_number(names.client_mac)?,
-            server_mac: MacName::from_number(names.server_mac)?,
-            client_compression: CompressionName::from_number(names.client_compression)?,
-            server_compression: CompressionName::from_number(names.server_compression)?,
+            kex: settled(names.kex)?,
+            key: settled(names.key)?,
+            cipher: settled(names.cipher)?,
+            client_mac: settled(names.client_mac)?,
+            server_mac: settled(names.server_mac)?,
+            client_compression: settled(names.client_compression)?,
+            server_compression: settled(names.server_compression)?,
             host_key_is_certificate: names.host_key_is_certificate != 0,
             ignore_guessed: names.ignore_guessed != 0,
             strict_kex: names.strict_kex != 0,
         })
     }
+}
+
+/// The name with a number that the library gave. Its table has it; one that it has not would be 9, at offset 0.
+fn settled<K: Kind>(number: u8) -> Result<Name<K>, ReadRefusal> {
+    Name::from_number(number).map_err(|refusal| refusal.at(0))
 }

@@ -16,21 +16,22 @@ macro_rules! layouts {
 }
 
 layouts! {
-    Frame 64 { what 0 number 1 need 8 start 16 len 24 end 32 taken 40 seqn 48 bytes 56 }
+    Frame 72 { what 0 number 1 offset 8 need 16 start 24 len 32 end 40 taken 48 seqn 56 bytes 64 }
     Sealed 32 { what 0 number 1 len 8 seqn 16 bytes 24 }
     Written 16 { what 0 number 1 len 8 }
-    Names 12 {
-        what 0 number 1 kex 2 key 3 cipher 4 client_mac 5 server_mac 6 client_compression 7 server_compression 8
-        host_key_is_certificate 9 ignore_guessed 10 strict_kex 11
+    Names 32 {
+        what 0 number 1 offset 8 kex 16 key 17 cipher 18 client_mac 19 server_mac 20 client_compression 21
+        server_compression 22 host_key_is_certificate 23 ignore_guessed 24 strict_kex 25
     }
-    Open 80 {
-        what 0 number 1 typ 2 recipient_channel 4 recipient_window_size 8 recipient_maximum_packet_size 12 text_start 16
-        text_len 24 port 32 originator_start 40 originator_len 48 originator_port 56 rest_start 64 rest_len 72
+    Open 96 {
+        what 0 number 1 offset 8 typ 16 recipient_channel 20 recipient_window_size 24 recipient_maximum_packet_size 28
+        text_start 32 text_len 40 port 48 originator_start 56 originator_len 64 originator_port 72 rest_start 80
+        rest_len 88
     }
-    Confirmation 20 {
-        what 0 number 1 recipient_channel 4 sender_channel 8 initial_window_size 12 maximum_packet_size 16
+    Confirmation 32 {
+        what 0 number 1 offset 8 recipient_channel 16 sender_channel 20 initial_window_size 24 maximum_packet_size 28
     }
-    Shown 24 { what 0 number 1 start 8 len 16 }
+    Shown 32 { what 0 number 1 offset 8 start 16 len 24 }
     Found 3 { what 0 number 1 value 2 }
     Flag 3 { what 0 number 1 value 2 }
 }

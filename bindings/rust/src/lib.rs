@@ -25,5 +25,5 @@ pub use kind::{Certificate, Cipher, Compression, Kex, Key, Kind, Mac};
 pub use name::{CertificateName, CipherName, CompressionName, KexName, KeyName, MacName, Name, UnknownName};
 pub use packet::{Counters, Frame, MOST_PAYLOAD, PACKET_ROOM, Packet, Sealed, read_packet, write_packet};
 pub use part::show;
-pub use refusal::Refusal;
+pub use refusal::{ReadRefusal, Refusal};
 pub use tables::{KeyKind, Side, Tables};

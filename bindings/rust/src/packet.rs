@@ -1,5 +1,5 @@
 use crate::part::{front, part};
-use crate::refusal::Refusal;
+use crate::refusal::{ReadRefusal, Refusal};
 use crate::size::narrow;
 use crate::{call, ffi};
 
@@ -45,7 +45,7 @@ pub struct Packet<'a> {
 ///
 /// # Errors
 /// [`Refusal::PacketSize`] and [`Refusal::Padding`].
-pub fn read_packet(bytes: &[u8], counters: Counters) -> Result<Frame<'_>, Refusal> {
+pub fn read_packet(bytes: &[u8], counters: Counters) -> Result<Frame<'_>, ReadRefusal> {
     let frame = call::frame_read(bytes, counters)?;
     if frame.what == ffi::NEED {
         return Ok(Frame::Need(narrow(frame.need)?));

@@ -1,9 +1,10 @@
 //! Any bytes get an answer: the readers on strings of two bytes, on good messages with a byte changed, on random bytes.
-//! That nothing here panics is half of what is tried.
+//! That nothing here panics is half of what is tried; a refusal's offset lies inside the bytes, or at their end.
 
 mod peer;
 
-use harupesat::{ChannelType, CipherName, Counters, Frame, Refusal, Tables, read_confirmation, read_open, read_packet};
+use harupesat::{ChannelType, CipherName, Counters, Frame, ReadRefusal, Refusal, Tables};
+use harupesat::{read_confirmation, read_open, read_packet};
 use peer::{Peer, server, string};
 
 const OFFER: [u8; 12] = [0, 0, 0, 1, 0, 0, 0, 2, 0, 0, 0, 3];
@@ -16,9 +17,13 @@ fn two_bytes_as_a_type() {
         let body = [&string(&bytes)[..], &OFFER].concat();
         match std::str::from_utf8(&bytes) {
             Ok(typ) => assert_eq!(read_open(&body).map(|open| open.typ), Ok(ChannelType::Unknown { typ, rest: &[] })),
-            Err(_) => assert_eq!(read_open(&body), Err(Refusal::NotUtf8)),
+            Err(_) => assert_eq!(read_open(&body), Err(Refusal::NotUtf8.at(0))),
         }
     }
+}
+
+fn inside<T>(bytes: &[u8], answer: &Result<T, ReadRefusal>) {
+    assert!(answer.as_ref().err().is_none_or(|refusal| refusal.offset <= bytes.len()));
 }
 
 /// A message with each byte set to a few others in turn, and which one it was.
@@ -38,11 +43,14 @@ fn damaged_messages() {
     let (server, kexinit) = (server(cipher), Peer::new(cipher).payload());
     for (at, bad) in damaged(&kexinit) {
         let got = server.read_kex(false, &bad);
+        inside(&bad, &got);
         assert!(at >= 17 || got == server.read_kex(false, &kexinit), "message number and cookie are not looked at");
     }
     let host = [&string(b"direct-tcpip")[..], &OFFER, &string(b"depot"), &[0; 4], &string(b"::1"), &[0; 4]].concat();
     for (_, bad) in damaged(&host) {
-        assert!(read_open(&bad).map_or(true, |open| open.recipient_maximum_packet_size != 0));
+        let got = read_open(&bad);
+        inside(&bad, &got);
+        assert!(got.map_or(true, |open| open.recipient_maximum_packet_size != 0));
     }
 }
 
@@ -69,12 +77,15 @@ fn random_bytes() {
     let tables = Tables::client();
     for _ in 0..20_000 {
         let bytes = random.bytes();
-        assert!(tables.read_kex(false, &bytes).is_err());
-        let _ = (read_open(&bytes), read_confirmation(&bytes));
+        let refused = tables.read_kex(false, &bytes);
+        assert!(refused.is_err());
+        inside(&bytes, &refused);
+        inside(&bytes, &read_open(&bytes));
+        inside(&bytes, &read_confirmation(&bytes));
         match read_packet(&bytes, Counters::default()) {
             Ok(Frame::Need(n)) => assert!(n > bytes.len()),
             Ok(Frame::Packet(packet)) => assert!(packet.taken <= bytes.len() && packet.payload.len() <= packet.taken),
-            Err(refusal) => assert!(matches!(refusal, Refusal::PacketSize | Refusal::Padding)),
+            Err(refusal) => assert!(refusal == Refusal::PacketSize.at(0) || refusal == Refusal::Padding.at(4)),
         }
     }
 }

@@ -3,7 +3,7 @@
 mod peer;
 
 use harupesat::{ChannelOpen, ChannelType, Confirmation, Refusal, TcpChannelInfo, fail, read_confirmation, read_open};
-use peer::string;
+use peer::{field_at, string};
 
 /// sender 1, window 2, maximum packet 3
 const OFFER: [u8; 12] = [0, 0, 0, 1, 0, 0, 0, 2, 0, 0, 0, 3];
@@ -56,10 +56,11 @@ fn every_type() {
 fn a_known_type_ends_with_its_fields() {
     let (fields, _) = tcp();
     let whole = body("direct-tcpip", &[&fields]);
+    let starts = [0, 16, 20, 24, 28, 39, 43, 50];
     for cut in 0..whole.len() {
-        assert_eq!(read_open(&whole[..cut]), Err(Refusal::PastEnd), "{cut} bytes");
+        assert_eq!(read_open(&whole[..cut]), Err(Refusal::PastEnd.at(field_at(&starts, cut))), "{cut} bytes");
     }
-    assert_eq!(read_open(&[&whole[..], &[0]].concat()), Err(Refusal::Trailing));
+    assert_eq!(read_open(&[&whole[..], &[0]].concat()), Err(Refusal::Trailing.at(54)));
 }
 
 #[test]

@@ -1,10 +1,10 @@
-//! Two ends, each with tables of its own, from KEXINIT over framed packets to what they settle on: equal names, or equal
-//! refusals.
+//! Two ends, each with tables of its own, from KEXINIT over framed packets to what they settle on: equal names, or refusals
+//! of equal number.
 
 use harupesat::{
     CertificateName, CipherName, CompressionName, Counters, Frame, KEXINIT_ROOM, KexName, KeyKind, KeyName, MacName,
 };
-use harupesat::{Names, PACKET_ROOM, Refusal, Tables, read_packet, write_packet};
+use harupesat::{Names, PACKET_ROOM, ReadRefusal, Refusal, Tables, read_packet, write_packet};
 
 /// A side's first packet, as it would go through a socket.
 fn first_packet(side: &Tables, cookie: &[u8; 16]) -> Vec<u8> {
@@ -15,7 +15,7 @@ fn first_packet(side: &Tables, cookie: &[u8; 16]) -> Vec<u8> {
 }
 
 /// What a side settles on when the peer's packet has come, with bytes of the next one behind it.
-fn settled(side: &Tables, packet: &[u8]) -> Result<Names, Refusal> {
+fn settled(side: &Tables, packet: &[u8]) -> Result<Names, ReadRefusal> {
     let stream = [packet, b"next"].concat();
     for have in 0..packet.len() {
         assert!(
@@ -28,7 +28,7 @@ fn settled(side: &Tables, packet: &[u8]) -> Result<Names, Refusal> {
     side.read_kex(false, got.payload)
 }
 
-fn exchange(client: &Tables, server: &Tables) -> (Result<Names, Refusal>, Result<Names, Refusal>) {
+fn exchange(client: &Tables, server: &Tables) -> (Result<Names, ReadRefusal>, Result<Names, ReadRefusal>) {
     let (from_client, from_server) = (first_packet(client, &[1; 16]), first_packet(server, &[2; 16]));
     (settled(client, &from_server), settled(server, &from_client))
 }
@@ -84,17 +84,19 @@ fn a_certificate() {
     assert_eq!(names.host_key(), "rsa-sha2-256-cert-v01@openssh.com");
 }
 
+/// The numbers are equal; the offsets are those of the peer's list, which each end has in another payload.
 #[test]
 fn both_refuse_with_one_number() {
     let client = Tables::client;
-    for (client, refusal) in [
-        (client().kex(&[]), Refusal::NoKex),
-        (client().key(&[KeyName::SSH_RSA]), Refusal::NoKey),
-        (client().cipher(&[CipherName::AES256_CBC]), Refusal::NoCipher),
-        (client().cipher(&[CipherName::AES256_CTR]).mac(&[MacName::NONE]), Refusal::NoMac),
-        (client().compression(&[]), Refusal::NoCompression),
+    for (client, refusal, read_by_client, read_by_server) in [
+        (client().kex(&[]), Refusal::NoKex, 17, 17),
+        (client().key(&[KeyName::SSH_RSA]), Refusal::NoKey, 316, 316),
+        (client().cipher(&[CipherName::AES256_CBC]), Refusal::NoCipher, 331, 425),
+        (client().cipher(&[CipherName::AES256_CTR]).mac(&[MacName::NONE]), Refusal::NoMac, 509, 453),
+        (client().compression(&[]), Refusal::NoCompression, 691, 785),
     ] {
-        assert_eq!(exchange(&client, &default_server()), (Err(refusal), Err(refusal)));
+        let refused = (Err(refusal.at(read_by_client)), Err(refusal.at(read_by_server)));
+        assert_eq!(exchange(&client, &default_server()), refused);
     }
 }
 

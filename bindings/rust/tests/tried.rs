@@ -3,8 +3,8 @@
 
 mod peer;
 
-use harupesat::{ChannelOpen, ChannelType, CipherName, Counters, Frame, MacName, Names, Packet, Refusal, Sealed};
-use harupesat::{read_open, read_packet, unknown_type, write_packet};
+use harupesat::{ChannelOpen, ChannelType, CipherName, Counters, Frame, MacName, Names, Packet, ReadRefusal, Refusal};
+use harupesat::{Sealed, read_open, read_packet, unknown_type, write_packet};
 use peer::{Peer, client, server, string};
 
 const START: Counters = Counters { seqn: 0, bytes: 0 };
@@ -32,7 +32,7 @@ fn p1_to_p3_padding_and_total() {
     }
 }
 
-fn empty(end: usize, taken: usize) -> Result<Frame<'static>, Refusal> {
+fn empty(end: usize, taken: usize) -> Result<Frame<'static>, ReadRefusal> {
     Ok(Frame::Packet(Packet { payload: &[], end, taken, counters: Counters { seqn: 1, bytes: 0 } }))
 }
 
@@ -40,10 +40,10 @@ fn empty(end: usize, taken: usize) -> Result<Frame<'static>, Refusal> {
 fn p4_to_p8_reading() {
     for (bytes, answer) in [
         (&[0, 0, 0, 1, 1][..], empty(4, 5)),
-        (&[0, 0, 0, 1, 2], Err(Refusal::Padding)),
+        (&[0, 0, 0, 1, 2], Err(Refusal::Padding.at(4))),
         (&[0, 0, 0, 0], empty(4, 4)),
         (&[0, 4, 0, 0x21], Ok(Frame::Need(262_181))),
-        (&[0, 4, 0, 0x22], Err(Refusal::PacketSize)),
+        (&[0, 4, 0, 0x22], Err(Refusal::PacketSize.at(0))),
     ] {
         assert_eq!(read_packet(bytes, START), answer, "{bytes:?}");
     }
@@ -51,8 +51,8 @@ fn p4_to_p8_reading() {
 
 #[test]
 fn p9_short_kexinits() {
-    assert_eq!(client(CHACHA20).read_kex(false, &[0; 16]), Err(Refusal::Inconsistent));
-    assert_eq!(client(CHACHA20).read_kex(false, &[0; 17]), Err(Refusal::PastEnd));
+    assert_eq!(client(CHACHA20).read_kex(false, &[0; 16]), Err(Refusal::Inconsistent.at(0)));
+    assert_eq!(client(CHACHA20).read_kex(false, &[0; 17]), Err(Refusal::PastEnd.at(17)));
 }
 
 #[test]
@@ -67,9 +67,9 @@ fn p10_a_session() {
     };
     assert_eq!(read_open(&body), Ok(session));
     let mut more = [&body[..], &[0]].concat();
-    assert_eq!(read_open(&more), Err(Refusal::Trailing));
+    assert_eq!(read_open(&more), Err(Refusal::Trailing.at(23)));
     more[19..23].fill(0);
-    assert_eq!(read_open(&more), Err(Refusal::Inconsistent));
+    assert_eq!(read_open(&more), Err(Refusal::Inconsistent.at(19)));
 }
 
 #[test]
@@ -78,7 +78,7 @@ fn p11_none_shared_first() {
         let tables = server(cipher).mac(&[MacName::HMAC_SHA2_256, MacName::NONE]);
         tables.read_kex(false, &Peer::new(cipher).with_mac("none,hmac-sha2-256").payload())
     };
-    assert_eq!(reads(AES128_CTR), Err(Refusal::NoMac));
+    assert_eq!(reads(AES128_CTR), Err(Refusal::NoMac.at(81)));
     let Names { client_mac, server_mac, .. } = reads(CHACHA20).unwrap();
     assert_eq!([client_mac, server_mac], [MacName::NONE; 2]);
 }

@@ -6,7 +6,7 @@
 use harupesat::{CipherName, CompressionName, KexName, KeyKind, KeyName, MacName, Tables};
 
 /// The lists as the peer sends them; where there are two, client to server and server to client.
-#[derive(Clone)]
+#[derive(Clone, Debug)]
 pub struct Peer {
     pub kex: String,
     pub key: String,
@@ -71,6 +71,11 @@ impl Peer {
         payload.extend([0; 4]);
         payload
     }
+}
+
+/// Which of the fields with these starts a byte stands in: what is missing, if the bytes end there.
+pub fn field_at(starts: &[usize], byte: usize) -> usize {
+    starts.iter().copied().filter(|start| *start <= byte).max().unwrap()
 }
 
 /// A string (RFC 4251 section 5): a big-endian length, and the bytes.
