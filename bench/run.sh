@@ -1,5 +1,7 @@
 #!/bin/sh
 # Builds the benchmark, counts instructions, takes times, and prints the tables of docs/BENCHMARKS.md.
+#   bench/run.sh
+#   bench/run.sh ours      counts ours alone, and prints the counts: bench/ratios.awk holds those of two libraries together
 # LIBDOOR: the x86-64 library, where it is not the repository's; LTO: as in bench/build.sh. RUSSH_TEXT: the folder of the
 # Rust's text; CAPTURES: real first packets. They default to ../shared/docs/src beside the repository and to
 # crates/peers/data.
@@ -12,17 +14,18 @@ set -eu
 bench=$(cd "$(dirname "$0")" && pwd)
 captures=${CAPTURES:-$bench/../crates/peers/data}
 calls=100
+case $* in '' | ours) ;; *) sed -n 's/^#  *bench/usage: bench/p' "$0" >&2 && exit 2 ;; esac
 if [ ! -f "$captures/INDEX.tsv" ]; then
     echo "bench: no INDEX.tsv in '$captures': name the folder of the captures by CAPTURES" >&2
     exit 2
 fi
 export CAPTURES="$(cd "$captures" && pwd)"
 rm -rf "$bench/target"
-FOR=x86_64 "$bench/build.sh" ${RUSSH_TEXT:+"$RUSSH_TEXT"}
+FOR=x86_64 "$bench/build.sh" ${RUSSH_TEXT:+"$RUSSH_TEXT"} >&2
 machine=$(uname -m)
 own=$bench/../target/staticlib/$machine/libdoor.a
-if [ "$machine" != x86_64 ] && [ -f "$own" ]; then
-    FOR=$machine LIBDOOR=$own "$bench/build.sh" ${RUSSH_TEXT:+"$RUSSH_TEXT"}
+if [ $# -eq 0 ] && [ "$machine" != x86_64 ] && [ -f "$own" ]; then
+    FOR=$machine LIBDOOR=$own "$bench/build.sh" ${RUSSH_TEXT:+"$RUSSH_TEXT"} >&2
 fi
 cd "$bench/target/x86_64"
 
@@ -64,12 +67,14 @@ count() { # GROUP CASE SIDE CALLS
 
 tab=$(printf '\t')
 $runner ./bench list > list
+if [ $# -ne 0 ]; then grep "${tab}ours\$" list > ours && mv ours list; fi
 while IFS=$tab read -r group case side; do
     once=$(count "$group" "$case" "$side" $calls)
     twice=$(count "$group" "$case" "$side" $((2 * calls)))
     printf '%s\t%s\t%s\t' "$group" "$case" "$side"
     awk -v once="$once" -v twice="$twice" -v calls=$calls 'BEGIN { printf "%.2f\n", (twice - once) / calls }'
 done < list > counts
+if [ $# -ne 0 ]; then exec cat counts; fi
 
 echo "Instructions counted by $tool."
 timed=../$machine/bench

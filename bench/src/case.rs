@@ -1,5 +1,7 @@
 //! What is measured: the same input through ours and through others.
 
+use plain::Out;
+use std::fmt::Debug;
 use std::hint::black_box;
 
 /// A call that is measured, with its input at hand.
@@ -55,6 +57,11 @@ fn call<T>(mut measured: impl FnMut() -> T + 'static) -> Call {
     Box::new(move || {
         black_box(&measured());
     })
+}
+
+/// Both read the same values, or refuse with the same number: the Rust has no offset.
+pub fn same<T: PartialEq + Debug>(ours: Out<T>, theirs: &Out<T>) {
+    assert_eq!(ours.as_ref().map_err(|refusal| refusal.number), theirs.as_ref().map_err(|refusal| refusal.number));
 }
 
 /// Inputs live as long as the program: a call borrows them.

@@ -1,6 +1,6 @@
 //! Channel opening, confirmation and failure.
 
-use crate::case::{Case, bytes, lent};
+use crate::case::{Case, bytes, lent, same};
 use crate::library;
 use russh::door::{self, oracle};
 
@@ -16,7 +16,7 @@ pub fn opening(typ: &[u8]) -> Vec<u8> {
 /// Ours on the body, after both gave the same answer.
 pub fn open(name: impl Into<String>, body: &'static [u8]) -> Case {
     let answer = oracle::open(body);
-    assert_eq!(ours::open(body).map(|(opening, _)| opening), answer);
+    same(ours::open(body).map(|(opening, _)| opening), &answer);
     assert_eq!(door::open(body).is_ok(), answer.is_ok());
     Case::new(name, move || library::open(body))
 }
@@ -46,7 +46,7 @@ pub fn opens() -> Vec<Case> {
 
 fn confirmation() -> Case {
     let body = bytes([[0, 0, 0, 1], [0, 0, 0, 2], [0, 32, 0, 0], [0, 0, 128, 0]].concat());
-    assert_eq!(ours::confirmation(body), oracle::confirmation(body));
+    same(ours::confirmation(body), &oracle::confirmation(body));
     Case::new("confirmation", move || library::confirmation(body))
         .against("russh", None, move || door::confirmation(body))
 }

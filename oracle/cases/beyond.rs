@@ -1,5 +1,5 @@
 //! What the Rust has no answer for: numbers 1, 8 and 9, 4 on writing, 2 on showing, the byte count that stops at its
-//! largest value, places as numbers, and the bytes of `out` that must stay. The model alone decides here.
+//! largest value, places as numbers, a refusal's offset, and the bytes of `out` that must stay. The model alone decides here.
 
 use crate::kex::{cookie, full, plain_fields, side};
 use crate::rng::Rng;
@@ -12,6 +12,8 @@ pub enum Beyond {
     Reading(Case),
     /// an accepted reader's case: where its parts stand, starts and lengths in eight bytes each
     Places(Case),
+    /// a refused reader's case: where the offending field starts
+    Offset(Case),
     /// a writer's case with an `out` of so many bytes
     Writing { case: Case, room: usize },
     /// a KEXINIT to be written with a cookie of any length
@@ -28,6 +30,10 @@ impl Beyond {
             Reading(case) | Writing { case, .. } => case.function(),
             Places(Case::FrameRead { .. }) => "frame_read, places",
             Places(_) => "open, places",
+            Offset(Case::ReadKex { .. }) => "read_kex, offset",
+            Offset(Case::FrameRead { .. }) => "frame_read, offset",
+            Offset(Case::Open { .. }) => "open, offset",
+            Offset(_) => "confirmation, offset",
             Cookie { .. } => "write_kex",
             Show { .. } => "show",
         }
@@ -35,7 +41,7 @@ impl Beyond {
 
     pub fn size(&self) -> usize {
         match self {
-            Reading(case) | Places(case) => case.size(),
+            Reading(case) | Places(case) | Offset(case) => case.size(),
             Writing { case, room } => case.size() + room,
             Cookie { tables, cookie, room } => entries(tables) + cookie.len() + room,
             Show { bytes, start, len } => bytes.len().saturating_add(*start).saturating_add(*len),
@@ -46,6 +52,7 @@ impl Beyond {
         match self {
             Reading(case) => lines::case(case),
             Places(case) => format!("places of {}", lines::case(case)),
+            Offset(case) => format!("{}, its offset", lines::case(case)),
             Writing { case, room } => format!("{} out {room}", lines::case(case)),
             Cookie { tables, cookie, room } => {
                 format!("write_kex {} {} out {room}", lines::tables(tables), lines::quoted(cookie))
@@ -55,9 +62,11 @@ impl Beyond {
     }
 }
 
-/// What goes with a case that was answered: a writer's `out` one byte short, and longer than needed; a reader's places.
-pub fn beside(case: &Case, written: Option<usize>) -> Vec<Beyond> {
+/// What goes with a case that was answered: a writer's `out` one byte short, and longer than needed; a reader's places, or
+/// where it was refused. The Rust refuses no writer's.
+pub fn beside(case: &Case, refused: bool, written: Option<usize>) -> Vec<Beyond> {
     match (case, written) {
+        _ if refused => vec![Offset(case.clone())],
         (Case::FrameRead { .. } | Case::Open { .. }, _) => vec![Places(case.clone())],
         (_, Some(n)) => {
             [n - 1, n + 1 + n % 23].into_iter().map(|room| Writing { case: case.clone(), room }).collect()

@@ -3,12 +3,14 @@
 pub mod beyond;
 pub mod captures;
 pub mod channels;
+pub mod cut;
 pub mod exhaustive;
 pub mod frames;
 pub mod kex;
 pub mod lines;
 pub mod lists;
 pub mod named;
+pub mod offsets;
 pub mod rng;
 pub mod tables;
 pub mod tried;
@@ -16,7 +18,7 @@ pub mod tried;
 pub use captures::{captured, captures};
 pub use tried::{document, tried};
 
-use plain::{Confirmation, Counters, Names, Opening, Out, Read, Tables};
+use plain::{Confirmation, Counters, Names, Opening, Out, Read, Refusal, Tables};
 use russh::door;
 
 #[derive(Debug, Clone)]
@@ -39,19 +41,38 @@ pub enum Answer {
     Sealed(Out<(Vec<u8>, Counters)>),
     Open(Out<Opening>),
     Confirmation(Out<Confirmation>),
+    /// any of them without its values
+    Bare(Out<()>),
 }
 
 impl Answer {
+    pub fn refusal(&self) -> Option<Refusal> {
+        match self {
+            Answer::Names(Err(r))
+            | Answer::Bytes(Err(r))
+            | Answer::Read(Err(r))
+            | Answer::Sealed(Err(r))
+            | Answer::Open(Err(r))
+            | Answer::Confirmation(Err(r))
+            | Answer::Bare(Err(r)) => Some(*r),
+            _ => None,
+        }
+    }
+
     /// the refusal's number, 0 for none
     pub fn number(&self) -> u8 {
-        match self {
-            Answer::Names(Err(n))
-            | Answer::Bytes(Err(n))
-            | Answer::Read(Err(n))
-            | Answer::Sealed(Err(n))
-            | Answer::Open(Err(n))
-            | Answer::Confirmation(Err(n)) => *n,
-            _ => 0,
+        self.refusal().map_or(0, |r| r.number)
+    }
+
+    pub fn bare(&self) -> Answer {
+        Answer::Bare(self.refusal().map_or(Ok(()), Err))
+    }
+
+    /// Whether another gives this answer too. An offset that this one does not say is not asked for: the Rust says none.
+    pub fn given_by(&self, other: &Answer) -> bool {
+        match (self.refusal(), other.refusal()) {
+            (Some(a), Some(b)) => a.number == b.number && a.offset.is_none_or(|offset| b.offset == Some(offset)),
+            _ => self == other,
         }
     }
 

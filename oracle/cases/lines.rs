@@ -74,10 +74,11 @@ fn typ(t: &ChannelType) -> String {
 }
 
 pub fn answer(a: &Answer) -> String {
-    if a.number() > 0 {
-        return format!("no {}", a.number());
+    if let Some(r) = a.refusal() {
+        return format!("no {}{}", r.number, r.offset.map_or(String::new(), |offset| format!(" {offset}")));
     }
     match a {
+        Answer::Bare(_) => "ok".into(),
         Answer::Names(Ok(n)) => format!(
             "ok {} {} {} {} {} {} {} {} {} {}",
             n.kex,
@@ -108,6 +109,6 @@ pub fn answer(a: &Answer) -> String {
             "ok {} {} {} {}",
             c.recipient_channel, c.sender_channel, c.initial_window_size, c.maximum_packet_size
         ),
-        _ => unreachable!("a refusal has a number"),
+        _ => unreachable!("a refusal was told"),
     }
 }

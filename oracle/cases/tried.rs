@@ -33,13 +33,13 @@ fn frames(all: &mut Vec<Tried>) {
     let none = |end, taken| Ok(Read::Packet { payload: vec![], end, taken, counters: Counters { seqn: 1, bytes: 0 } });
     for (bytes, expected) in [
         (&[0, 0, 0, 1, 1][..], none(4, 5)),
-        (&[0, 0, 0, 1, 2], Err(7)),
+        (&[0, 0, 0, 1, 2], Err(7.into())),
         (&[0, 0, 0, 0], none(4, 4)),
         (&[0, 4, 0, 0x21], Ok(Read::Need(262181))),
-        (&[0, 4, 0, 0x22], Err(4)),
+        (&[0, 4, 0, 0x22], Err(4.into())),
     ] {
         let case = Case::FrameRead { bytes: bytes.to_vec(), counters: ZERO };
-        all.push(tries("P4 to P8", case, move |a| *a == Answer::Read(expected.clone())));
+        all.push(tries("P4 to P8", case, move |a| Answer::Read(expected.clone()).given_by(a)));
     }
 }
 

@@ -1,6 +1,6 @@
 //! crates/channels/specs: Open; crates/layouts/specs: Types; crates/replies/specs: Confirmation, Failure
 
-use crate::answer::{Out, guard};
+use crate::answer::{Out, guard, guardAt};
 use crate::put;
 use crate::wire::{At, Place, Run, end, here, string, word};
 
@@ -44,12 +44,12 @@ pub struct OpenChannelMessage {
     pub recipient_maximum_packet_size: u32,
 }
 
-/// "sender, window, maximum packet, then 6 on 0"
+/// "sender, window, maximum packet, then 6 on 0"; 6 is for the maximum's field
 fn offer(c: At) -> Out<(Offer, At)> {
     let (sender, c1) = word(c)?;
     let (window, c2) = word(c1)?;
     let (most, c3) = word(c2)?;
-    guard(6, most != 0)?;
+    guardAt(6, c2.at, most != 0)?;
     Ok((Offer { sender_channel: sender, initial_window_size: window, maximum_packet_size: most }, c3))
 }
 

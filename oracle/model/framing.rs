@@ -1,6 +1,6 @@
 //! crates/framing/specs: Clear, Answers
 
-use crate::answer::{Out, guard};
+use crate::answer::{Out, guard, guardAt};
 use crate::put;
 use crate::wire::{Place, bigEndian};
 use plain::Counters;
@@ -31,12 +31,14 @@ pub fn packetLength(n: usize) -> usize {
     1 + n + paddingLength(n)
 }
 
+/// the length is the packet's first field
 fn judgedLength(len: usize) -> Out<()> {
     guard(4, len <= MOST_LENGTH)
 }
 
+/// the padding's byte comes after the length's four
 fn judgedPadding(len: usize, padding: usize) -> Out<()> {
-    guard(7, padding <= len)
+    guardAt(7, 4, padding <= len)
 }
 
 pub fn counted(n: usize, k: Counters) -> Counters {

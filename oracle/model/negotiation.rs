@@ -1,6 +1,6 @@
 //! crates/negotiation/specs: KexInit, Written, Read
 
-use crate::answer::{Out, guard, refuse};
+use crate::answer::{Out, guard, refuseAt};
 use crate::choice::{bothFirst, chosen, listed};
 use crate::names::{Kind, needMac, numberOf, spelled};
 use crate::preferred::{cipherList, compressionList, keyList, kexChosen, kexWritten, macList, strictName, valid};
@@ -10,15 +10,21 @@ use plain::{Names, Tables};
 
 pub const MOST_PAYLOAD: usize = 262176;
 
-/// a name-list field, as its names
-fn offer(c: At) -> Out<(Vec<Name>, At)> {
-    let (t, d) = nameList(c)?;
-    Ok((cut(t.bytes), d))
+/// a name-list field, as its names, and where it stands
+struct Offer<'a> {
+    names: Vec<Name<'a>>,
+    at: usize,
 }
 
-fn settle(n: u8, name: Option<Name>) -> Out<Name> {
+fn offer(c: At) -> Out<(Offer, At)> {
+    let (t, d) = nameList(c)?;
+    Ok((Offer { names: cut(t.bytes), at: c.at }, d))
+}
+
+/// 10 to 14 are at the peer's list that they are about
+fn settle<'a>(n: u8, list: &Offer, name: Option<Name<'a>>) -> Out<Name<'a>> {
     match name {
-        None => refuse(n),
+        None => refuseAt(n, list.at),
         Some(name) => Ok(name),
     }
 }
@@ -31,11 +37,11 @@ fn needsMac(cipher: Name) -> bool {
     needMac(number(Kind::Cipher, cipher))
 }
 
-fn settleMac<'a>(cipher: Name, mac: Option<Name<'a>>) -> Out<Name<'a>> {
+fn settleMac<'a>(cipher: Name, list: &Offer, mac: Option<Name<'a>>) -> Out<Name<'a>> {
     match mac {
-        None if needsMac(cipher) => refuse(13),
+        None if needsMac(cipher) => refuseAt(13, list.at),
         None => Ok(b"none"),
-        Some(mac) if needsMac(cipher) && mac == b"none" => refuse(13),
+        Some(mac) if needsMac(cipher) && mac == b"none" => refuseAt(13, list.at),
         Some(mac) => Ok(mac),
     }
 }
@@ -57,20 +63,20 @@ pub fn readKex(t: &Tables, strictAgreed: bool, p: &[u8]) -> Out<Names> {
     guard(1, p.len() <= MOST_PAYLOAD)?;
     guard(6, 17 <= p.len())?;
     let (kexes, c1) = offer(here(p, 17))?;
-    let kex = settle(10, chosen(t.side, &kexChosen(t), &kexes))?;
+    let kex = settle(10, &kexes, chosen(t.side, &kexChosen(t), &kexes.names))?;
     let (keys, c2) = offer(c1)?;
-    let key = settle(11, chosen(t.side, &keyList(t), &keys))?;
+    let key = settle(11, &keys, chosen(t.side, &keyList(t), &keys.names))?;
     let (ciphers, c3) = offer(c2)?;
-    let cipher = settle(12, chosen(t.side, &cipherList(t), &ciphers))?;
+    let cipher = settle(12, &ciphers, chosen(t.side, &cipherList(t), &ciphers.names))?;
     let (_, c4) = string(c3)?;
     let (macs, c5) = offer(c4)?;
-    let clientMac = settleMac(cipher, chosen(t.side, &macList(t), &macs))?;
+    let clientMac = settleMac(cipher, &macs, chosen(t.side, &macList(t), &macs.names))?;
     let (macs2, c6) = offer(c5)?;
-    let serverMac = settleMac(cipher, chosen(t.side, &macList(t), &macs2))?;
+    let serverMac = settleMac(cipher, &macs2, chosen(t.side, &macList(t), &macs2.names))?;
     let (compressions, c7) = offer(c6)?;
-    let clientCompression = settle(14, chosen(t.side, &compressionList(t), &compressions))?;
+    let clientCompression = settle(14, &compressions, chosen(t.side, &compressionList(t), &compressions.names))?;
     let (compressions2, c8) = offer(c7)?;
-    let serverCompression = settle(14, chosen(t.side, &compressionList(t), &compressions2))?;
+    let serverCompression = settle(14, &compressions2, chosen(t.side, &compressionList(t), &compressions2.names))?;
     let (_, c9) = string(c8)?;
     let (_, c10) = string(c9)?;
     let (follows, c11) = byte(c10)?;
@@ -85,8 +91,8 @@ pub fn readKex(t: &Tables, strictAgreed: bool, p: &[u8]) -> Out<Names> {
         client_compression: number(Kind::Compression, clientCompression),
         server_compression: number(Kind::Compression, serverCompression),
         host_key_is_certificate: isCertificate(key),
-        ignore_guessed: follows != 0 && !(bothFirst(&kexChosen(t), &kexes) && bothFirst(&keyList(t), &keys)),
-        strict_kex: strict(t, strictAgreed, &kexes),
+        ignore_guessed: follows != 0 && !(bothFirst(&kexChosen(t), &kexes.names) && bothFirst(&keyList(t), &keys.names)),
+        strict_kex: strict(t, strictAgreed, &kexes.names),
     })
 }
 

@@ -1,6 +1,6 @@
 //! crates/commas/specs: Cut; crates/wire/specs: Fields, Walk, Shown; crates/namelist/specs: Judged
 
-use crate::answer::{Out, guard};
+use crate::answer::{Out, guard, guardAt, placed};
 use crate::text::{ascii, utf8};
 
 pub type Name<'a> = &'a [u8];
@@ -33,9 +33,16 @@ pub struct Run<'a> {
     pub bytes: &'a [u8],
 }
 
+/// whatever is wrong with a field, it is refused at its first byte, which is the first of its length (document 02, No. 6)
+fn field<'a, A>(c: At<'a>, read: impl Fn(At<'a>) -> Out<A>) -> Out<A> {
+    placed(c.at, read(c))
+}
+
 pub fn byte(c: At) -> Out<(u8, At)> {
-    guard(2, 1 <= c.left.len())?;
-    Ok((c.left[0], skip(1, c)))
+    field(c, |c| {
+        guard(2, 1 <= c.left.len())?;
+        Ok((c.left[0], skip(1, c)))
+    })
 }
 
 pub fn bigEndian(s: &[u8]) -> u32 {
@@ -43,25 +50,32 @@ pub fn bigEndian(s: &[u8]) -> u32 {
 }
 
 pub fn word(c: At) -> Out<(u32, At)> {
-    guard(2, 4 <= c.left.len())?;
-    Ok((bigEndian(c.left), skip(4, c)))
+    field(c, |c| {
+        guard(2, 4 <= c.left.len())?;
+        Ok((bigEndian(c.left), skip(4, c)))
+    })
 }
 
 pub fn run(c: At) -> Out<(Run, At)> {
-    let (n, c1) = word(c)?;
-    let n = n as usize;
-    guard(2, n <= c1.left.len())?;
-    Ok((Run { place: Place { start: c1.at, len: n }, bytes: &c1.left[..n] }, skip(n, c1)))
+    field(c, |c| {
+        let (n, c1) = word(c)?;
+        let n = n as usize;
+        guard(2, n <= c1.left.len())?;
+        Ok((Run { place: Place { start: c1.at, len: n }, bytes: &c1.left[..n] }, skip(n, c1)))
+    })
 }
 
 pub fn string(c: At) -> Out<(Run, At)> {
-    let (t, c1) = run(c)?;
-    guard(3, utf8(t.bytes))?;
-    Ok((t, c1))
+    field(c, |c| {
+        let (t, c1) = run(c)?;
+        guard(3, utf8(t.bytes))?;
+        Ok((t, c1))
+    })
 }
 
+/// 5 is at the first byte that is too much
 pub fn end(c: At) -> Out<()> {
-    guard(5, c.left.is_empty())
+    guardAt(5, c.at, c.left.is_empty())
 }
 
 /// The names of a list: cut at each comma; one comma at the very end ends the last name and starts none (C3).
@@ -100,12 +114,14 @@ fn judgedList(s: &[u8]) -> Out<()> {
     judged(&cut(s))
 }
 
-/// a name-list: the string, then its length, then its bytes (C7)
+/// a name-list: the string, then its length, then its bytes (C7); one field, whichever of its names offends
 pub fn nameList(c: At) -> Out<(Run, At)> {
-    let (t, c1) = run(c)?;
-    guard(2, t.bytes.len() <= MOST_BYTES)?;
-    judgedList(t.bytes)?;
-    Ok((t, c1))
+    field(c, |c| {
+        let (t, c1) = run(c)?;
+        guard(2, t.bytes.len() <= MOST_BYTES)?;
+        judgedList(t.bytes)?;
+        Ok((t, c1))
+    })
 }
 
 /// "a string's place lies outside the slice lent" is 2

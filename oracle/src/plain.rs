@@ -32,8 +32,21 @@ pub struct Tables {
     pub cert_ids: Vec<u32>,
 }
 
-/// A refusal's number, or the values.
-pub type Out<T> = Result<T, u8>;
+/// A refusal: its number, and of a reader's where the offending field starts. A writer's says no place, nor does the Rust.
+#[derive(Debug, Clone, Copy, PartialEq, Eq)]
+pub struct Refusal {
+    pub number: u8,
+    pub offset: Option<usize>,
+}
+
+impl From<u8> for Refusal {
+    fn from(number: u8) -> Refusal {
+        Refusal { number, offset: None }
+    }
+}
+
+/// A refusal, or the values.
+pub type Out<T> = Result<T, Refusal>;
 
 #[derive(Debug, Clone, Copy, PartialEq, Eq)]
 pub struct Counters {

@@ -1,8 +1,13 @@
-//! The oracle's answers, one case per line: the cases made with fixed seeds, so the file is the same byte for byte.
+//! The oracle's answers, one case per line: the cases made with fixed seeds, so the file is the same byte for byte. Where a
+//! refusal stands is the model's, and where the Rust cannot be asked the whole answer.
 //!   record OUT N FOLDER-OF-CAPTURES
 
+#[allow(dead_code)] // the comparison asks the model for more
+#[path = "compare/modelled.rs"]
+mod modelled;
+
 use cases::rng::Rng;
-use cases::{Case, NUMBERS, channels, exhaustive, frames, kex, lines};
+use cases::{Answer, Case, NUMBERS, channels, exhaustive, frames, kex, lines, offsets};
 use std::collections::BTreeMap;
 use std::io::{BufWriter, Result, Write};
 
@@ -44,6 +49,8 @@ fn rekeyed((i, case): (usize, Case)) -> Case {
 /// What the list holds: some of each family that `compare` tries, so that it stays small enough to be kept and replayed.
 pub fn families(n: usize, folder: &str) -> Vec<(String, Vec<Case>)> {
     let mut all: Vec<(String, Vec<Case>)> = vec![("document 01's tried bytes".into(), cases::tried())];
+    let examples = offsets::examples().iter().filter_map(|e| e.case().cloned()).collect();
+    all.push(("document 02's examples of offsets".into(), examples));
     for (file, bytes) in cases::captures(folder) {
         all.push((file, cases::captured(&bytes)));
     }
@@ -73,6 +80,25 @@ pub fn families(n: usize, folder: &str) -> Vec<(String, Vec<Case>)> {
     all
 }
 
+/// The Rust's answer; of a refusal, with the model's offset.
+fn answered(case: &Case) -> Answer {
+    let (answer, model) = (case.oracle(), modelled::case(case));
+    assert!(answer.given_by(&model), "the oracle and the model differ on {}", lines::case(case));
+    if answer.refusal().is_some() { model } else { answer }
+}
+
+const HEADER: &str = "\
+# The offset of a reader's refusal, its second number, is the model's (oracle/model): the Rust has none";
+
+/// What the Rust cannot be asked: each example's function, line and answer, which is the document's and the model's.
+fn beyond() -> impl Iterator<Item = (&'static str, String, Answer)> {
+    offsets::examples().into_iter().filter(|e| e.case().is_none()).map(|e| {
+        let answer = modelled::beyond(&e.asked);
+        assert_eq!(answer.refusal(), Some(e.says), "the example and the model differ on {}", e.asked.line());
+        (e.asked.function(), e.asked.line(), answer)
+    })
+}
+
 fn main() -> Result<()> {
     let args: Vec<String> = std::env::args().skip(1).collect();
     let [file, n, folder] = &args[..] else { panic!("record OUT N FOLDER") };
@@ -81,14 +107,21 @@ fn main() -> Result<()> {
     let families = families(n, folder);
     let mut out = BufWriter::new(std::fs::File::create(file)?);
     let mut counts: BTreeMap<&str, BTreeMap<String, u64>> = BTreeMap::new();
+    let mut record = |out: &mut BufWriter<_>, function, line: String, answer: Answer| {
+        *counts.entry(function).or_default().entry(answer.sort()).or_default() += 1;
+        writeln!(out, "{line} = {}", lines::answer(&answer))
+    };
     writeln!(out, "# Answers of russh 0.65.0, made by oracle/record.sh (oracle/README.md); seed {SEED:#x}, N {n}")?;
+    writeln!(out, "{HEADER}")?;
     for (what, cases) in families {
         writeln!(out, "# {what}")?;
         for case in cases {
-            let answer = case.oracle();
-            writeln!(out, "{} = {}", lines::case(&case), lines::answer(&answer))?;
-            *counts.entry(case.function()).or_default().entry(answer.sort()).or_default() += 1;
+            record(&mut out, case.function(), lines::case(&case), answered(&case))?;
         }
+    }
+    writeln!(out, "# document 02's examples that the Rust cannot be asked: the whole answer is the model's")?;
+    for (function, line, answer) in beyond() {
+        record(&mut out, function, line, answer)?;
     }
     out.flush()?;
 

@@ -21,10 +21,10 @@ fn lent<T>(room: usize, write: impl FnOnce(&mut [u8]) -> Out<(usize, T)>) -> Out
     let answer = write(&mut out);
     let n = answer.as_ref().map_or(0, |(n, _)| *n);
     if n > room {
-        return Err(ours::MALFORMED);
+        return Err(ours::MALFORMED.into());
     }
     if out[n..] != untouched[n..] {
-        return Err(TOUCHED);
+        return Err(TOUCHED.into());
     }
     answer.map(|(n, more)| (out[..n].to_vec(), more))
 }
@@ -83,7 +83,7 @@ fn places(case: &Case) -> Out<Vec<u8>> {
 
 pub fn beyond(beyond: &Beyond) -> Answer {
     match beyond {
-        Beyond::Reading(c) => case(c, 0),
+        Beyond::Reading(c) | Beyond::Offset(c) => case(c, 0),
         Beyond::Places(c) => Answer::Bytes(places(c)),
         Beyond::Writing { case, room } => writing(case, *room),
         Beyond::Cookie { tables, cookie, room } => bytes(*room, |out| ours::write_kex(tables, cookie, out)),

@@ -1,6 +1,8 @@
 //! The proved library, the Rust's text (the oracle) and the model (our definitions, in Rust), case by case. Built without
 //! the library (no `--cfg library`) it compares the model with the oracle alone.
-//!   compare N FOLDER-OF-CAPTURES [library|model]      ends at the first disagreement of that one
+//!   compare N FOLDER-OF-CAPTURES [library|model|offsets]
+//! The third word: ends at the first disagreement of the library with oracle or model; of the model with the oracle; or of the
+//! model with what decides an offset without it.
 //! SEED: what the random cases are made from (seed.rs).
 
 mod counts;
@@ -8,6 +10,7 @@ mod modelled;
 mod question;
 mod rows;
 mod seed;
+mod smaller;
 mod tally;
 
 #[cfg(library)]
@@ -18,10 +21,10 @@ mod library;
 use cases::rng::Rng;
 use cases::{Case, channels, exhaustive, frames, kex, named, tables};
 use plain::Side;
-use question::Question;
+use question::{Judge, LIBRARY, MODEL, Question};
 use russh::door;
 use seed::Seed;
-use tally::Tally;
+use tally::{First, Tally};
 
 /// Whether each row is shown by running the text.
 fn differences() -> bool {
@@ -78,8 +81,10 @@ fn table_limits() -> Vec<Case> {
 }
 
 fn exhaustively(tally: &mut Tally, captures: &[(String, Vec<u8>)]) {
+    cases::offsets::examples().into_iter().for_each(|e| tally.ask(&Question::Example(e.asked, e.says)));
     let mut all = |what: &str, cases: &mut dyn Iterator<Item = Case>| tally.ask_all(what, cases.map(Question::Case));
     all("document 01's tried bytes", &mut cases::document().into_iter().map(|t| t.case));
+    all("document 02's examples", &mut cases::offsets::examples().into_iter().filter_map(|e| e.case().cloned()));
     all("real first packets", &mut captures.iter().flat_map(|(_, bytes)| cases::captured(bytes)));
     all("short packets: every length to 40, padding and slice", &mut frames::short(40));
     all("packets at their limits", &mut frames::limits().into_iter());
@@ -146,11 +151,13 @@ fn main() {
     let mut args = std::env::args().skip(1);
     let n: usize = args.next().map_or(500_000, |a| a.parse().expect("N is a number"));
     let captures = cases::captures(&args.next().unwrap_or_default());
-    let first = args.next().map(|who| match &who[..] {
-        "library" => "the library",
-        "model" => "the model",
-        _ => panic!("the first disagreement of the library or of the model"),
+    let first = args.next().map(|which| match &which[..] {
+        "library" => First { who: LIBRARY, judges: &[Judge::Oracle, Judge::Model] },
+        "model" => First { who: MODEL, judges: &[Judge::Oracle] },
+        "offsets" => First { who: MODEL, judges: &[Judge::Document, Judge::Cut] },
+        _ => panic!("the first disagreement of the library, of the model or about offsets"),
     });
+    let hurried = first.is_some();
     let mut tally = Tally::new(first);
     let seed = Seed::given();
     let model = if cfg!(library) { "" } else { "model " };
@@ -168,7 +175,7 @@ fn main() {
     let tried = document();
 
     println!("   oracle     model  (cases compared with the oracle; with the model alone)");
-    if first.is_some() {
+    if hurried {
         // most mutants are seen by a few random cases
         randomly(&mut tally, seed, n / 50);
         with_library(&mut tally, seed, n / 50);

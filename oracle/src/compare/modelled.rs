@@ -5,10 +5,16 @@ use cases::named::Named;
 use cases::{Answer, Case};
 use model::wire::Place;
 use model::{channels as mc, door, framing, names, negotiation, put, wire};
-use plain::{ChannelType, Counters, Opening, Out, Read, Tcp};
+use plain::{ChannelType, Counters, Opening, Out, Read, Refusal, Tcp};
 
+/// a reader's answer
+fn read_out<T>(answer: model::answer::Out<T>) -> Out<T> {
+    answer.map_err(|r| Refusal { number: r.number, offset: Some(r.offset) })
+}
+
+/// a writer's, or one about names: it says no place
 fn out<T>(answer: model::answer::Out<T>) -> Out<T> {
-    answer.map_err(|r| r.number)
+    answer.map_err(|r| r.number.into())
 }
 
 fn shown(s: &[u8], p: Place) -> Vec<u8> {
@@ -53,17 +59,17 @@ fn read(bytes: &[u8], read: framing::Read) -> Read {
 pub fn case(case: &Case) -> Answer {
     match case {
         Case::ReadKex { tables, strict_agreed, payload } => {
-            Answer::Names(out(negotiation::readKex(tables, *strict_agreed, payload)))
+            Answer::Names(read_out(negotiation::readKex(tables, *strict_agreed, payload)))
         }
         Case::WriteKex { tables, cookie } => Answer::Bytes(out(negotiation::writeKex(tables, cookie))),
         Case::FrameRead { bytes, counters } => {
-            Answer::Read(out(framing::readPacket(bytes, *counters)).map(|r| read(bytes, r)))
+            Answer::Read(read_out(framing::readPacket(bytes, *counters)).map(|r| read(bytes, r)))
         }
         Case::FrameWrite { payload, counters } => Answer::Sealed(
             out(framing::packetOf(payload)).map(|packet| (packet, framing::counted(payload.len(), *counters))),
         ),
-        Case::Open { body } => Answer::Open(out(mc::readOpen(body)).map(|m| opening(body, m))),
-        Case::Confirmation { body } => Answer::Confirmation(out(mc::readConfirmation(body))),
+        Case::Open { body } => Answer::Open(read_out(mc::readOpen(body)).map(|m| opening(body, m))),
+        Case::Confirmation { body } => Answer::Confirmation(read_out(mc::readConfirmation(body))),
         Case::Fail { recipient, reason, text } => Answer::Bytes(out(mc::failure(*recipient, *reason, text))),
         Case::UnknownType { recipient } => Answer::Bytes(out(mc::unknownType(*recipient))),
     }
@@ -123,23 +129,23 @@ pub fn encoded(places: &[(usize, usize)]) -> Vec<u8> {
 
 fn places(case: &Case) -> Out<Vec<u8>> {
     match case {
-        Case::FrameRead { bytes, counters } => out(framing::readPacket(bytes, *counters)).map(|read| match read {
+        Case::FrameRead { bytes, counters } => read_out(framing::readPacket(bytes, *counters)).map(|read| match read {
             framing::Read::Need(_) => encoded(&[(0, 0)]),
             framing::Read::Packet(p) => encoded(&[(p.payload.start, p.payload.len)]),
         }),
-        Case::Open { body } => out(mc::readOpen(body)).map(|m| encoded(&parts(body, m.typ))),
+        Case::Open { body } => read_out(mc::readOpen(body)).map(|m| encoded(&parts(body, m.typ))),
         _ => unreachable!("places are asked of packets and messages alone"),
     }
 }
 
 pub fn beyond(beyond: &Beyond) -> Answer {
     match beyond {
-        Beyond::Reading(c) => case(c),
+        Beyond::Reading(c) | Beyond::Offset(c) => case(c),
         Beyond::Places(c) => Answer::Bytes(places(c)),
         Beyond::Writing { case, room } => writing(case, *room),
         Beyond::Cookie { tables, cookie, room } => Answer::Bytes(lent(*room, negotiation::writeKex(tables, cookie))),
         Beyond::Show { bytes, start, len } => {
-            Answer::Bytes(out(wire::shown(bytes, Place { start: *start, len: *len })).map(|part| part.to_vec()))
+            Answer::Bytes(read_out(wire::shown(bytes, Place { start: *start, len: *len })).map(|part| part.to_vec()))
         }
     }
 }

@@ -1,25 +1,45 @@
 //! A question, who answers it, and smaller questions.
 
 use crate::modelled;
+use crate::smaller::{fewer_beyond, fewer_in};
 use cases::beyond::{self, Beyond};
-use cases::kex::Fields;
+use cases::cut::{Cut, cut};
 use cases::named::Named;
 use cases::{Answer, Case, lines};
-use plain::Tables;
+use plain::Refusal;
 
 #[derive(Clone)]
 pub enum Question {
     Case(Case),
     Named(Named),
     Beyond(Beyond),
+    /// an example of document 02, and what it says (cases/offsets.rs)
+    Example(Beyond, Refusal),
+    /// a message, cut where it is refused (cases/cut.rs)
+    Cut(Case),
 }
 
-use Question::{Beyond as B, Case as C, Named as N};
+use Question::{Beyond as B, Case as C, Cut as K, Example as E, Named as N};
 
 #[derive(Clone, Copy, PartialEq, Eq, PartialOrd, Ord)]
 pub enum Judge {
     Oracle,
     Model,
+    /// an example
+    Document,
+    /// what must be said of a cut message
+    Cut,
+}
+
+impl Judge {
+    pub fn name(self) -> &'static str {
+        match self {
+            Judge::Oracle => "the oracle",
+            Judge::Model => "the model",
+            Judge::Document => "the document",
+            Judge::Cut => "the cut",
+        }
+    }
 }
 
 /// One answer beside the judge's.
@@ -28,12 +48,17 @@ pub struct Voice {
     pub answer: Answer,
 }
 
+/// Who is held to all of this: the library, or where there is none the model.
+pub const OURS: &str = if cfg!(library) { LIBRARY } else { MODEL };
+pub const LIBRARY: &str = "the library";
+pub const MODEL: &str = "the model";
+
 impl Question {
     pub fn function(&self) -> &'static str {
         match self {
-            C(case) => case.function(),
+            C(case) | K(case) => case.function(),
             N(named) => named.function(),
-            B(beyond) => beyond.function(),
+            B(beyond) | E(beyond, _) => beyond.function(),
         }
     }
 
@@ -41,15 +66,16 @@ impl Question {
         match self {
             C(case) => lines::case(case),
             N(named) => named.line(),
-            B(beyond) => beyond.line(),
+            B(beyond) | E(beyond, _) => beyond.line(),
+            K(case) => format!("{}, cut where it is refused", lines::case(case)),
         }
     }
 
     pub fn size(&self) -> usize {
         match self {
-            C(case) => case.size(),
+            C(case) | K(case) => case.size(),
             N(_) => 0,
-            B(beyond) => beyond.size(),
+            B(beyond) | E(beyond, _) => beyond.size(),
         }
     }
 
@@ -57,56 +83,86 @@ impl Question {
         match self {
             C(case) => Some(case.oracle()),
             N(named) => named.oracle(),
-            B(_) => None,
+            B(_) | E(..) | K(_) => None,
         }
     }
 
     fn model(&self) -> Answer {
         match self {
-            C(case) => modelled::case(case),
+            C(case) | K(case) => modelled::case(case),
             N(named) => modelled::named(named),
-            B(beyond) => modelled::beyond(beyond),
+            B(beyond) | E(beyond, _) => modelled::beyond(beyond),
         }
+    }
+
+    /// `room`: how many bytes a writer may write
+    #[cfg(library)]
+    fn library(&self, room: usize) -> Option<Answer> {
+        use crate::{fault, library};
+        Some(fault::asking(self, || match self {
+            C(case) | K(case) => library::case(case, room),
+            N(named) => library::named(named),
+            B(beyond) | E(beyond, _) => library::beyond(beyond),
+        }))
+    }
+
+    #[cfg(not(library))]
+    fn library(&self, _: usize) -> Option<Answer> {
+        None
+    }
+
+    fn ours(&self) -> Answer {
+        self.library(0).unwrap_or_else(|| self.model())
     }
 
     /// Who decides, the answer, and what the others say.
     pub fn asked(&self) -> (Judge, Answer, Vec<Voice>) {
-        let model = self.model();
-        let (judge, answer, mut voices) = match self.oracle() {
-            Some(answer) => (Judge::Oracle, answer, vec![Voice { who: "the model", answer: model }]),
-            None => (Judge::Model, model, vec![]),
+        if let K(case) = self {
+            return self.cut_at(case);
+        }
+        let model = Voice { who: MODEL, answer: self.model() };
+        let (judge, answer, mut voices) = match (self, self.oracle()) {
+            (E(_, says), _) => (Judge::Document, Answer::Bare(Err(*says)), vec![model]),
+            (_, Some(answer)) => (Judge::Oracle, answer, vec![model]),
+            (_, None) => (Judge::Model, model.answer, vec![]),
         };
-        self.library(&answer, &mut voices);
+        voices.extend(self.library(written(&answer).unwrap_or(0)).map(|answer| Voice { who: LIBRARY, answer }));
         (judge, answer, voices)
     }
 
-    #[cfg(library)]
-    fn library(&self, answer: &Answer, voices: &mut Vec<Voice>) {
-        use crate::{fault, library};
-        let answer = fault::asking(self, || match self {
-            C(case) => library::case(case, written(answer).unwrap_or(0)),
-            N(named) => library::named(named),
-            B(beyond) => library::beyond(beyond),
-        });
-        voices.push(Voice { who: "the library", answer });
+    /// What must be said of the message once it is cut, and what is; nobody says anything where it is not to be cut.
+    fn cut_at(&self, case: &Case) -> (Judge, Answer, Vec<Voice>) {
+        match self.ours().refusal().and_then(|refusal| cut(case, refusal)) {
+            None => (Judge::Cut, Answer::Bare(Ok(())), vec![]),
+            Some(Cut { case, says, .. }) => {
+                (Judge::Cut, Answer::Bare(says), vec![Voice { who: OURS, answer: C(case).ours().bare() }])
+            }
+        }
     }
-
-    #[cfg(not(library))]
-    fn library(&self, _: &Answer, _: &mut Vec<Voice>) {}
 
     /// What goes with a case that was answered so, and that the model alone decides.
     pub fn beside(&self, answer: &Answer) -> Vec<Question> {
+        let refused = answer.refusal().is_some();
         match self {
-            C(case) if answer.number() == 0 => beyond::beside(case, written(answer)).into_iter().map(B).collect(),
+            C(case) => beyond::beside(case, refused, written(answer)).into_iter().map(B).collect(),
+            B(Beyond::Reading(case)) if refused => vec![B(Beyond::Offset(case.clone()))],
             _ => vec![],
         }
+    }
+
+    /// The question about the message cut where ours refused it, and the cut.
+    pub fn cut(&self, voices: &[Voice]) -> Option<(Question, Cut)> {
+        let (C(case) | B(Beyond::Reading(case))) = self else { return None };
+        let ours = voices.iter().find(|v| v.who == OURS)?;
+        Some((K(case.clone()), cut(case, ours.answer.refusal()?)?))
     }
 
     /// the same question with something taken away
     pub fn smaller(&self) -> Vec<Question> {
         match self {
             C(case) => fewer_in(case).into_iter().map(C).collect(),
-            N(_) => vec![],
+            K(case) => fewer_in(case).into_iter().map(K).collect(),
+            N(_) | E(..) => vec![],
             B(beyond) => fewer_beyond(beyond).into_iter().map(B).collect(),
         }
     }
@@ -118,123 +174,4 @@ fn written(answer: &Answer) -> Option<usize> {
         Answer::Bytes(Ok(bytes)) | Answer::Sealed(Ok((bytes, _))) => Some(bytes.len()),
         _ => None,
     }
-}
-
-/// The bytes without a part, ever smaller ones; of long bytes only so many, since each is a copy.
-fn cuts(bytes: &[u8]) -> Vec<Vec<u8>> {
-    let mut all = Vec::new();
-    let mut n = bytes.len();
-    while n > 0 && bytes.len() / n * bytes.len() < 16_000_000 {
-        for at in (0..bytes.len()).step_by(n) {
-            all.push([&bytes[..at], bytes.get(at + n..).unwrap_or(&[])].concat());
-        }
-        n /= 2;
-    }
-    all
-}
-
-fn less(n: usize) -> Vec<usize> {
-    if n == 0 { vec![] } else { vec![0, n / 2, n - 1] }
-}
-
-fn fewer_beyond(beyond: &Beyond) -> Vec<Beyond> {
-    match beyond {
-        Beyond::Reading(case) => fewer_in(case).into_iter().map(Beyond::Reading).collect(),
-        Beyond::Places(case) => fewer_in(case).into_iter().map(Beyond::Places).collect(),
-        Beyond::Writing { case, room } => {
-            let rooms = less(*room).into_iter().map(|room| Beyond::Writing { case: case.clone(), room });
-            let cases = fewer_in(case).into_iter().map(|case| Beyond::Writing { case, room: *room });
-            rooms.chain(cases).collect()
-        }
-        Beyond::Cookie { tables, cookie, room } => {
-            let made = |tables: &Tables, cookie: &[u8], room| {
-                Beyond::Cookie { tables: tables.clone(), cookie: cookie.to_vec(), room }
-            };
-            let mut all: Vec<Beyond> = less(*room).into_iter().map(|room| made(tables, cookie, room)).collect();
-            all.extend(cuts(cookie).iter().map(|cookie| made(tables, cookie, *room)));
-            all.extend(fewer(tables).iter().map(|tables| made(tables, cookie, *room)));
-            all
-        }
-        Beyond::Show { bytes, start, len } => {
-            let made = |bytes: &[u8], start, len| Beyond::Show { bytes: bytes.to_vec(), start, len };
-            let mut all: Vec<Beyond> = cuts(bytes).iter().map(|bytes| made(bytes, *start, *len)).collect();
-            all.extend(less(*start).into_iter().map(|start| made(bytes, start, *len)));
-            all.extend(less(*len).into_iter().map(|len| made(bytes, *start, len)));
-            all
-        }
-    }
-}
-
-fn fewer_in(case: &Case) -> Vec<Case> {
-    let mut all = Vec::new();
-    match case {
-        Case::ReadKex { tables, strict_agreed, payload } => {
-            for t in fewer(tables) {
-                all.push(Case::ReadKex { tables: t, strict_agreed: *strict_agreed, payload: payload.clone() });
-            }
-            for p in shorter(payload) {
-                all.push(Case::ReadKex { tables: tables.clone(), strict_agreed: *strict_agreed, payload: p });
-            }
-        }
-        Case::WriteKex { tables, cookie } => {
-            all.extend(fewer(tables).into_iter().map(|tables| Case::WriteKex { tables, cookie: *cookie }));
-        }
-        Case::FrameRead { bytes, counters } => {
-            all.extend(cuts(bytes).into_iter().map(|bytes| Case::FrameRead { bytes, counters: *counters }));
-        }
-        Case::FrameWrite { payload, counters } => {
-            all.extend(cuts(payload).into_iter().map(|payload| Case::FrameWrite { payload, counters: *counters }));
-        }
-        Case::Open { body } => all.extend(cuts(body).into_iter().map(|body| Case::Open { body })),
-        Case::Confirmation { body } => all.extend(cuts(body).into_iter().map(|body| Case::Confirmation { body })),
-        Case::Fail { recipient, reason, text } => {
-            let made = |text| Case::Fail { recipient: *recipient, reason: *reason, text };
-            all.extend(cuts(text).into_iter().map(made));
-        }
-        Case::UnknownType { .. } => {}
-    }
-    all
-}
-
-/// a payload with less in a field, its lengths kept right; one that is not whole is cut anywhere
-fn shorter(payload: &[u8]) -> Vec<Vec<u8>> {
-    let Some(f) = Fields::of(payload) else { return cuts(payload) };
-    let with = |i: usize, list: Vec<u8>| {
-        let mut f = f.clone();
-        f.lists[i] = list;
-        f.payload()
-    };
-    (0..10).flat_map(|i| cuts(&f.lists[i]).into_iter().map(move |list| (i, list))).map(|(i, list)| with(i, list)).collect()
-}
-
-fn fewer(t: &Tables) -> Vec<Tables> {
-    let mut all = Vec::new();
-    let lists: [fn(&mut Tables) -> &mut Vec<u8>; 6] = [
-        |t| &mut t.kex,
-        |t| &mut t.key,
-        |t| &mut t.certificate,
-        |t| &mut t.cipher,
-        |t| &mut t.mac,
-        |t| &mut t.compression,
-    ];
-    for list in lists {
-        for i in 0..list(&mut t.clone()).len() {
-            let mut c = t.clone();
-            list(&mut c).remove(i);
-            all.push(c);
-        }
-    }
-    for i in 0..t.key_kinds.len().min(t.key_ids.len()) {
-        let mut c = t.clone();
-        c.key_kinds.remove(i);
-        c.key_ids.remove(i);
-        all.push(c);
-    }
-    for i in 0..t.cert_kinds.len().min(t.cert_ids.len()) {
-        let mut c = t.clone();
-        c.cert_kinds.remove(i);
-        c.cert_ids.remove(i);
-        all.push(c);
-    }
-    all
 }

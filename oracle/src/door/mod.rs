@@ -165,7 +165,7 @@ pub fn frame_read(bytes: &[u8], k: Counters) -> Out<Read> {
             assert_eq!(counters(&buffer), k, "need and refusals change no counter");
             match error {
                 Error::Io(e) if e.kind() == std::io::ErrorKind::UnexpectedEof => Ok(Read::Need(stream.wanted)),
-                e => Err(number(e)),
+                e => Err(number(e).into()),
             }
         }
     }

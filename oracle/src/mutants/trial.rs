@@ -17,15 +17,20 @@ pub struct Seen {
 /// judges, as a comparison names them
 const ORACLE: &str = "the oracle";
 const MODEL: &str = "the model";
+const DOCUMENT: &str = "the document";
+const CUT: &str = "the cut";
 
-/// The model with one thing changed, against the oracle.
+/// The model with one thing changed, against the oracle; its offsets against the examples, and messages cut there.
 pub fn definitions(s: &Setting, m: &Mutant) -> Seen {
     let work = emptied(s);
     copy(&s.oracle.join("model"), &work);
     m.apply(&work);
     rlib(s, "model", &work.join("lib.rs"), &["model"]);
     program(s, &["model"], &[]);
-    compared(s, &work.join("compare"), "model", &[ORACLE])
+    match m.label.starts_with("offset: ") {
+        true => compared(s, &work.join("compare"), "offsets", &[DOCUMENT, CUT]),
+        false => compared(s, &work.join("compare"), "model", &[ORACLE]),
+    }
 }
 
 /// The Rust's text with one thing changed, against the library: what the model says of it does not count.
@@ -64,7 +69,7 @@ pub fn library(s: &Setting, m: &Mutant) -> Vec<Seen> {
     places.iter().map(tried).collect()
 }
 
-/// Our code with one thing changed, unproved, over the recorded answers of the Rust.
+/// Our code with one thing changed, unproved, over the recorded answers.
 pub fn code(s: &Setting, m: &Mutant) -> Seen {
     let work = repository(s);
     m.apply(&work);

@@ -99,8 +99,8 @@ pub fn bites() -> Vec<(&'static str, bool)> {
         all.push((what, LENGTHS.iter().all(|len| as_it_must_be(ended, stand_in, *len))));
     }
     let answer = reading(|l| l.lend(&[1u8]) as usize);
-    all.push(("an answer that is another at each edge is seen", answer == Err(UNSTEADY)));
+    all.push(("an answer that is another at each edge is seen", answer == Err(UNSTEADY.into())));
     let answer = writing(&mut [3u8; 7], |_, out, _| unsafe { out.write(out as usize as u8) });
-    all.push(("what is written is another at each edge, and that is seen", answer == Err(UNSTEADY)));
+    all.push(("what is written is another at each edge, and that is seen", answer == Err(UNSTEADY.into())));
     all
 }

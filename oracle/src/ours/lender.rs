@@ -52,7 +52,7 @@ pub fn writing<A: PartialEq>(out: &mut [u8], call: impl Fn(&mut Lender, *mut u8,
         let steady = answers[0] == answers[1] && front == back;
         out.copy_from_slice(back);
         let [answer, _] = answers;
-        if steady { Ok(answer) } else { Err(UNSTEADY) }
+        if steady { Ok(answer) } else { Err(UNSTEADY.into()) }
     })
 }
 

@@ -8,10 +8,11 @@ mod lender;
 mod region;
 
 pub use bites::bites;
+pub use names::*;
 
 use header::*;
 use lender::{reading, writing};
-use plain::{ChannelType, Counters, Opening, Out, Read, Side, Tables, Tcp};
+use plain::{ChannelType, Counters, Opening, Out, Read, Refusal, Side, Tables, Tcp};
 
 /// In a refusal's place: the struct is none that the header allows (an unused field that is not 0, a flag that is no bool,
 /// a place outside the slice lent, a number that no refusal carries).
@@ -20,33 +21,39 @@ pub const MALFORMED: u8 = 255;
 /// where a text stands: start and length
 pub type Place = (usize, usize);
 
-/// Goes on where the answer is no refusal; a refusal holds its number and nothing else.
+/// Goes on where the answer is no refusal; a refusal holds its number, a reader's (`offset`) where, and nothing else.
 macro_rules! accepted {
-    ($answer:expr, $type:ident) => {{
+    ($answer:expr, $type:ident $(, $offset:ident)?) => {{
         let answer = $answer;
         if answer.what == REFUSED {
-            let allowed = answer == $type { number: answer.number, ..$type::default() };
-            return Err(if allowed && (1..=14).contains(&answer.number) { answer.number } else { MALFORMED });
+            let allowed = answer == $type { number: answer.number, $($offset: answer.$offset,)? ..$type::default() };
+            if !allowed || !(1..=14).contains(&answer.number) {
+                return Err(MALFORMED.into());
+            }
+            let said: &[usize] = &[$(answer.$offset)?];
+            return Err(Refusal { number: answer.number, offset: said.first().copied() });
         }
         answer
     }};
 }
 
+mod names; // after the macro, which it uses
+
 fn exactly<T: PartialEq>(answer: T, allowed: T) -> Out<()> {
-    if answer == allowed { Ok(()) } else { Err(MALFORMED) }
+    if answer == allowed { Ok(()) } else { Err(MALFORMED.into()) }
 }
 
 fn flag(byte: u8) -> Out<bool> {
     match byte {
         0 => Ok(false),
         1 => Ok(true),
-        _ => Err(MALFORMED),
+        _ => Err(MALFORMED.into()),
     }
 }
 
 fn part(s: &[u8], (start, len): Place) -> Out<Vec<u8>> {
     let end = start.checked_add(len).ok_or(MALFORMED)?;
-    s.get(start..end).map(|part| part.to_vec()).ok_or(MALFORMED)
+    s.get(start..end).map(|part| part.to_vec()).ok_or(MALFORMED.into())
 }
 
 fn written(answer: Written) -> Out<usize> {
@@ -58,7 +65,7 @@ fn written(answer: Written) -> Out<usize> {
 
 /// the packet, and where its payload stands
 pub fn frame_read(s: &[u8], k: Counters) -> Out<(Read, Place)> {
-    let a = accepted!(reading(|l| unsafe { harupesat_frame_read(l.lend(s), s.len(), k.seqn, k.bytes) })?, Frame);
+    let a = accepted!(reading(|l| unsafe { harupesat_frame_read(l.lend(s), s.len(), k.seqn, k.bytes) })?, Frame, offset);
     if a.what == NEED {
         let need = a.need;
         exactly(a, Frame { what: NEED, need, ..Frame::default() })?;
@@ -71,7 +78,7 @@ pub fn frame_read(s: &[u8], k: Counters) -> Out<(Read, Place)> {
         taken: a.taken,
         counters: Counters { seqn: a.seqn, bytes: a.bytes },
     };
-    exactly((a.what, a.number, a.need), (DONE, 0, 0))?;
+    exactly((a.what, a.number, a.offset, a.need), (DONE, 0, 0, 0))?;
     Ok((read, place))
 }
 
@@ -145,8 +152,8 @@ pub fn read_kex(t: &Tables, strict_agreed: bool, payload: &[u8]) -> Out<plain::N
             payload.len(),
         )
     });
-    let a = accepted!(answer?, Names);
-    exactly((a.what, a.number), (DONE, 0))?;
+    let a = accepted!(answer?, Names, offset);
+    exactly((a.what, a.number, a.offset), (DONE, 0, 0))?;
     Ok(plain::Names {
         kex: a.kex,
         key: a.key,
@@ -202,7 +209,7 @@ fn used(a: &Open) -> Open {
 
 /// the message, and where its text, its originator and its rest stand
 pub fn open(body: &[u8]) -> Out<(Opening, [Place; 3])> {
-    let a = accepted!(reading(|l| unsafe { harupesat_read_open(l.lend(body), body.len()) })?, Open);
+    let a = accepted!(reading(|l| unsafe { harupesat_read_open(l.lend(body), body.len()) })?, Open, offset);
     let places = [
         (a.text_start, a.text_len),
         (a.originator_start, a.originator_len),
@@ -226,7 +233,7 @@ pub fn open(body: &[u8]) -> Out<(Opening, [Place; 3])> {
         5 => ChannelType::ForwardedStreamLocal { path: part(body, text)? },
         6 => ChannelType::AgentForward,
         7 => ChannelType::Unknown { typ: part(body, text)?, rest: part(body, rest)? },
-        _ => return Err(MALFORMED),
+        _ => return Err(MALFORMED.into()),
     };
     let opening = Opening {
         typ,
@@ -240,8 +247,9 @@ pub fn open(body: &[u8]) -> Out<(Opening, [Place; 3])> {
 }
 
 pub fn confirmation(body: &[u8]) -> Out<plain::Confirmation> {
-    let a = accepted!(reading(|l| unsafe { harupesat_read_confirmation(l.lend(body), body.len()) })?, Confirmation);
-    exactly((a.what, a.number), (DONE, 0))?;
+    let answer = reading(|l| unsafe { harupesat_read_confirmation(l.lend(body), body.len()) });
+    let a = accepted!(answer?, Confirmation, offset);
+    exactly((a.what, a.number, a.offset), (DONE, 0, 0))?;
     Ok(plain::Confirmation {
         recipient_channel: a.recipient_channel,
         sender_channel: a.sender_channel,
@@ -262,40 +270,7 @@ pub fn unknown_type(recipient: u32, out: &mut [u8]) -> Out<usize> {
 
 /// the part of s at a place; the place handed back is the one asked for
 pub fn show(s: &[u8], (start, len): Place) -> Out<Vec<u8>> {
-    let a = accepted!(reading(|l| unsafe { harupesat_show(l.lend(s), s.len(), start, len) })?, Shown);
-    exactly(a, Shown { what: DONE, number: 0, start, len })?;
+    let a = accepted!(reading(|l| unsafe { harupesat_show(l.lend(s), s.len(), start, len) })?, Shown, offset);
+    exactly(a, Shown { what: DONE, number: 0, offset: 0, start, len })?;
     part(s, (start, len))
-}
-
-pub fn spelling(kind: u8, number: u8, out: &mut [u8]) -> Out<usize> {
-    written(writing(out, |_, out, len| unsafe { harupesat_spelling(kind, number, out, len) })?)
-}
-
-/// a name's number, none for a name that the kind does not have
-pub fn lookup(kind: u8, name: &[u8]) -> Out<Option<u8>> {
-    let a = accepted!(reading(|l| unsafe { harupesat_lookup(kind, l.lend(name), name.len()) })?, Found);
-    if a.what == UNKNOWN {
-        exactly(a, Found { what: UNKNOWN, number: 0, value: 0 })?;
-        return Ok(None);
-    }
-    exactly((a.what, a.number), (DONE, 0))?;
-    Ok(Some(a.value))
-}
-
-fn flagged(answer: Flag) -> Out<bool> {
-    let a = accepted!(answer, Flag);
-    exactly((a.what, a.number), (DONE, 0))?;
-    flag(a.value)
-}
-
-pub fn needs_mac(cipher: u8) -> Out<bool> {
-    flagged(harupesat_needs_mac(cipher))
-}
-
-pub fn built_in_integrity(cipher: u8) -> Out<bool> {
-    flagged(harupesat_built_in_integrity(cipher))
-}
-
-pub fn default_list(kind: u8, out: &mut [u8]) -> Out<usize> {
-    written(writing(out, |_, out, len| unsafe { harupesat_default_list(kind, out, len) })?)
 }
