@@ -1,5 +1,5 @@
 -- Each reader of a message, beside itself on the cut input. Assumes nothing.
-use mathlib.Core.Path.{_≡_, refl}
+use mathlib.Core.Path.{_≡_, refl, ap, _∙_}
 use mathlib.Core.Bool.{Bool, true, false, not}
 use mathlib.Core.List.{List, [], _∷_}
 use Prim.Native.Nat.{ℕ, _≤_}
@@ -8,7 +8,7 @@ use borrow.Author.Tests.{leb-true, le-leb}
 use lib.Dec.{leb, eqb}
 use lib.ListN.{length, take, length-take}
 use Rattle.answer.specs.declared.Refusal.{Refusal}
-use Rattle.answer.specs.Answer.{Out, refused, done, guardAt, pick, _>>=_}
+use Rattle.answer.specs.Answer.{Out, refused, done, refuseAt, guardAt, pick, _>>=_}
 use Rattle.text.specs.Literal.{bytes}
 use Rattle.text.specs.Same.{same}
 use Rattle.wire.specs.Fields.{At, Run, here, byte, word, string}
@@ -27,7 +27,7 @@ use Rattle.preferred.specs.Own.{kexChosen}
 use Rattle.negotiation.specs.KexInit.{offer}
 use Rattle.negotiation.specs.Written.{keyList, cipherList, macList, compressionList}
 use Rattle.negotiation.specs.Read.{mostKexInit, settle, settleMac, readKex}
-use Rattle.refusals.specs.Refusals.{EachBroke}
+use Rattle.refusals.specs.Refusals.{Broke, EachBroke}
 use Rattle.refusals.proofs.CutLaws.{clip, byte-field, word-field, string-field, offer-field}
 use Rattle.refusals.proofs.WhereLaws.{clip-here, Later, settle-judges, mac-judges, test-judges, value-later, named-later, gate, made-later, field-later, judged-later, end-later}
 
@@ -42,51 +42,48 @@ shorter s n most h = le-leb (length (take n s)) most (let l = leb-true (length s
 as-long : (s : List ℕ) (k n : ℕ) → k ≤ length s → k ≤ n → leb k (length (take n s)) ≡ true
 as-long s k n h l = le-leb k (length (take n s)) (simp length-take (omega arith))
 
-module _ (t : Tables) (b : Bool) (no5 : member 5 kexNumbers ≡ false) (r : Refusal) where
+module _ (t : Tables) (b : Bool) (no5 : member 5 kexNumbers ≡ false) (r : Refusal) (p : ℕ) (behind : r .offset ≤ p) where
   abbrev After : {A : Type 0} → ℕ → Out A → Out A → Type 0
-  After a m m′ = Later kexNumbers no5 r a m m′
-
-  abbrev i : ℕ
-  i = r .offset
+  After a m m′ = Later kexNumbers no5 r p behind a m m′
 
   -- a list, and the choice from it
   list-later : {B : Type 0} (n : ℕ) → (n ≡ 5 → ⊥) → (own : List (List ℕ)) (c : At) (K : List ℕ → List (List ℕ) × At → Out B)
-      → ((y : List ℕ) (x : List (List ℕ)) (d : At) → After (d .at) (K y (x, d)) (K y (x, clip i d)))
-      → After (c .at) (offer c >>= λ x. settle n (c .at) (chosen (t .side) own (x .0)) >>= λ y. K y x) (offer (clip i c) >>= λ x. settle n (c .at) (chosen (t .side) own (x .0)) >>= λ y. K y x)
+      → ((y : List ℕ) (x : List (List ℕ)) (d : At) → After (d .at) (K y (x, d)) (K y (x, clip p d)))
+      → After (c .at) (offer c >>= λ x. settle n (c .at) (chosen (t .side) own (x .0)) >>= λ y. K y x) (offer (clip p c) >>= λ x. settle n (c .at) (chosen (t .side) own (x .0)) >>= λ y. K y x)
   list-later n z own c K k =
-      judged-later kexNumbers no5 r offer offer-field c (λ names. settle n (c .at) (chosen (t .side) own names))
+      judged-later kexNumbers no5 r p behind offer offer-field c (λ names. settle n (c .at) (chosen (t .side) own names))
       (λ names. settle-judges n (c .at) z (chosen (t .side) own names)) K k
 
   mac-later : {B : Type 0} (cipher : List ℕ) (c : At) (K : List ℕ → List (List ℕ) × At → Out B)
-      → ((y : List ℕ) (x : List (List ℕ)) (d : At) → After (d .at) (K y (x, d)) (K y (x, clip i d)))
+      → ((y : List ℕ) (x : List (List ℕ)) (d : At) → After (d .at) (K y (x, d)) (K y (x, clip p d)))
       → After (c .at) (offer c >>= λ x. settleMac cipher (c .at) (chosen (t .side) (macList t) (x .0)) >>= λ y. K y x)
-      (offer (clip i c) >>= λ x. settleMac cipher (c .at) (chosen (t .side) (macList t) (x .0)) >>= λ y. K y x)
+      (offer (clip p c) >>= λ x. settleMac cipher (c .at) (chosen (t .side) (macList t) (x .0)) >>= λ y. K y x)
   mac-later cipher c K k =
-      judged-later kexNumbers no5 r offer offer-field c (λ names. settleMac cipher (c .at) (chosen (t .side) (macList t) names))
+      judged-later kexNumbers no5 r p behind offer offer-field c (λ names. settleMac cipher (c .at) (chosen (t .side) (macList t) names))
       (λ names. mac-judges cipher (c .at) (chosen (t .side) (macList t) names)) K k
 
-  kex-later : (p : List ℕ) → After 0 (readKex t b p) (readKex t b (take i p))
+  kex-later : (s : List ℕ) → After 0 (readKex t b s) (readKex t b (take p s))
   unfolding readKex member
-  kex-later p =
-      gate kexNumbers no5 r 9 (valid t) (valid t) 0 _ _ refl (λ z. omega arith) (λ _ e. e) (λ _.
-      gate kexNumbers no5 r 1 (leb (length p) mostKexInit) (leb (length (take i p)) mostKexInit) 0 _ _ refl (λ z. omega arith)
-      (λ _ e. shorter p i mostKexInit e) (λ _.
-      gate kexNumbers no5 r 6 (leb 17 (length p)) (leb 17 (length (take i p))) 17 _ _ refl (λ z. omega arith)
-      (λ l e. as-long p 17 i (leb-true 17 (length p) e) l) (λ e.
-      named-later kexNumbers no5 r 17 _ _ _ (λ l. rw (clip-here p 17 i (leb-true 17 (length p) e) l))
-      (list-later 10 (λ z. omega arith) (spelledRows (kexChosen t)) (here p 17) _ (λ kex kexes c₁.
+  kex-later s =
+      gate kexNumbers no5 r p behind 9 (valid t) (valid t) 0 _ _ refl (λ z. omega arith) (λ _ e. e) (λ _.
+      gate kexNumbers no5 r p behind 1 (leb (length s) mostKexInit) (leb (length (take p s)) mostKexInit) 0 _ _ refl (λ z. omega arith)
+      (λ _ e. shorter s p mostKexInit e) (λ _.
+      gate kexNumbers no5 r p behind 6 (leb 17 (length s)) (leb 17 (length (take p s))) 17 _ _ refl (λ z. omega arith)
+      (λ l e. as-long s 17 p (leb-true 17 (length s) e) (omega (arith, behind, l))) (λ e.
+      named-later kexNumbers no5 r p behind 17 _ _ _ (λ l. rw (clip-here s 17 p (leb-true 17 (length s) e) (omega (arith, behind, l))))
+      (list-later 10 (λ z. omega arith) (spelledRows (kexChosen t)) (here s 17) _ (λ kex kexes c₁.
       list-later 11 (λ z. omega arith) (keyList t) c₁ _ (λ key keys c₂.
       list-later 12 (λ z. omega arith) (cipherList t) c₂ _ (λ cipher ciphers c₃.
-      field-later kexNumbers no5 r string string-field c₃ _ (λ _ c₄.
+      field-later kexNumbers no5 r p behind string string-field c₃ _ (λ _ c₄.
       mac-later cipher c₄ _ (λ clientMac macs c₅.
       mac-later cipher c₅ _ (λ serverMac macs′ c₆.
       list-later 14 (λ z. omega arith) (compressionList t) c₆ _ (λ _ _ c₇.
       list-later 14 (λ z. omega arith) (compressionList t) c₇ _ (λ _ _ c₈.
-      field-later kexNumbers no5 r string string-field c₈ _ (λ _ c₉.
-      field-later kexNumbers no5 r string string-field c₉ _ (λ _ c₁₀.
-      field-later kexNumbers no5 r byte byte-field c₁₀ _ (λ _ c₁₁.
-      field-later kexNumbers no5 r word word-field c₁₁ _ (λ _ c₁₂.
-      end-later kexNumbers no5 r c₁₂ _ _ refl))))))))))))))))
+      field-later kexNumbers no5 r p behind string string-field c₈ _ (λ _ c₉.
+      field-later kexNumbers no5 r p behind string string-field c₉ _ (λ _ c₁₀.
+      field-later kexNumbers no5 r p behind byte byte-field c₁₀ _ (λ _ c₁₁.
+      field-later kexNumbers no5 r p behind word word-field c₁₁ _ (λ _ c₁₂.
+      end-later kexNumbers no5 r p behind c₁₂ _ _ refl))))))))))))))))
 
 -- what an opening and a confirmation share, and what follows it
 assoc : {A B C : Type 0} (m : Out A) (f : A → Out B) (g : B → Out C) → ((m >>= f) >>= g) ≡ (m >>= λ a. f a >>= g)
@@ -108,46 +105,46 @@ module _ {B : Type 0} (c : At) (K : Offer × At → Out B) where
   unfolding granted
   granted-flat = simp (assoc, given)
 
-module _ (ns : List ℕ) (no5 : member 5 ns ≡ false) (r : Refusal) where
+module _ (ns : List ℕ) (no5 : member 5 ns ≡ false) (r : Refusal) (p : ℕ) (behind : r .offset ≤ p) where
   granted-later : {B : Type 0} (c : At) (K : Offer × At → Out B)
-      → ((x : Offer) (d : At) → Later ns no5 r (d .at) (K (x, d)) (K (x, clip (r .offset) d)))
-      → Later ns no5 r (c .at) (granted c >>= K) (granted (clip (r .offset) c) >>= K)
+      → ((x : Offer) (d : At) → Later ns no5 r p behind (d .at) (K (x, d)) (K (x, clip p d)))
+      → Later ns no5 r p behind (c .at) (granted c >>= K) (granted (clip p c) >>= K)
   granted-later c K k =
-      rw (granted-flat c K, granted-flat (clip (r .offset) c) K)
-      (field-later ns no5 r word word-field c _ (λ a c₁.
-      field-later ns no5 r word word-field c₁ _ (λ w c₂.
-      judged-later ns no5 r word word-field c₂ (λ most. guardAt 6 (c₂ .at) (not (eqb most 0)))
+      rw (granted-flat c K, granted-flat (clip p c) K)
+      (field-later ns no5 r p behind word word-field c _ (λ a c₁.
+      field-later ns no5 r p behind word word-field c₁ _ (λ w c₂.
+      judged-later ns no5 r p behind word word-field c₂ (λ most. guardAt 6 (c₂ .at) (not (eqb most 0)))
       (λ most. test-judges 6 (c₂ .at) (λ z. omega arith) (not (eqb most 0))) _ (λ u x d. k _ d))))
 
-module _ (no5 : member 5 (2 ∷ 6 ∷ []) ≡ false) (r : Refusal) where
-  confirmation-later : (b : List ℕ) → Later (2 ∷ 6 ∷ []) no5 r 0 (readConfirmation b) (readConfirmation (take (r .offset) b))
+module _ (no5 : member 5 (2 ∷ 6 ∷ []) ≡ false) (r : Refusal) (p : ℕ) (behind : r .offset ≤ p) where
+  confirmation-later : (b : List ℕ) → Later (2 ∷ 6 ∷ []) no5 r p behind 0 (readConfirmation b) (readConfirmation (take p b))
   unfolding readConfirmation member
   confirmation-later b =
-      gate (2 ∷ 6 ∷ []) no5 r 1 (leb (length b) mostBody) (leb (length (take (r .offset) b)) mostBody) 0 _ _ refl (λ z. omega arith)
-      (λ _ e. shorter b (r .offset) mostBody e) (λ _.
-      named-later (2 ∷ 6 ∷ []) no5 r 0 _ _ _ (λ l. rw (clip-here b 0 (r .offset) (omega arith) l))
-      (field-later (2 ∷ 6 ∷ []) no5 r word word-field (here b 0) _ (λ _ c.
-      granted-later (2 ∷ 6 ∷ []) no5 r c _ (λ _ d. value-later (2 ∷ 6 ∷ []) no5 r (d .at) _ _))))
+      gate (2 ∷ 6 ∷ []) no5 r p behind 1 (leb (length b) mostBody) (leb (length (take p b)) mostBody) 0 _ _ refl (λ z. omega arith)
+      (λ _ e. shorter b p mostBody e) (λ _.
+      named-later (2 ∷ 6 ∷ []) no5 r p behind 0 _ _ _ (λ l. rw (clip-here b 0 p (omega arith) (omega arith)))
+      (field-later (2 ∷ 6 ∷ []) no5 r p behind word word-field (here b 0) _ (λ _ c.
+      granted-later (2 ∷ 6 ∷ []) no5 r p behind c _ (λ _ d. value-later (2 ∷ 6 ∷ []) no5 r p behind (d .at) _ _))))
 
 -- an opening, by its type
 abbrev openNumbers : List ℕ
 openNumbers = 2 ∷ 3 ∷ 6 ∷ []
 
-module _ (no5 : member 5 openNumbers ≡ false) (r : Refusal) where
+module _ (no5 : member 5 openNumbers ≡ false) (r : Refusal) (p : ℕ) (behind : r .offset ≤ p) where
   abbrev Opens : (At → Out ChannelType) → Type 0
-  Opens f = (c : At) → Later openNumbers no5 r (c .at) (f c) (f (clip (r .offset) c))
+  Opens f = (c : At) → Later openNumbers no5 r p behind (c .at) (f c) (f (clip p c))
 
-  abbrev text : {B : Type 0} (c : At) (K : Run × At → Out B) → ((x : Run) (d : At) → Later openNumbers no5 r (d .at) (K (x, d)) (K (x, clip (r .offset) d)))
-      → Later openNumbers no5 r (c .at) (string c >>= K) (string (clip (r .offset) c) >>= K)
-  text c K k = field-later openNumbers no5 r string string-field c K k
+  abbrev text : {B : Type 0} (c : At) (K : Run × At → Out B) → ((x : Run) (d : At) → Later openNumbers no5 r p behind (d .at) (K (x, d)) (K (x, clip p d)))
+      → Later openNumbers no5 r p behind (c .at) (string c >>= K) (string (clip p c) >>= K)
+  text c K k = field-later openNumbers no5 r p behind string string-field c K k
 
-  abbrev count : {B : Type 0} (c : At) (K : ℕ × At → Out B) → ((x : ℕ) (d : At) → Later openNumbers no5 r (d .at) (K (x, d)) (K (x, clip (r .offset) d)))
-      → Later openNumbers no5 r (c .at) (word c >>= K) (word (clip (r .offset) c) >>= K)
-  count c K k = field-later openNumbers no5 r word word-field c K k
+  abbrev count : {B : Type 0} (c : At) (K : ℕ × At → Out B) → ((x : ℕ) (d : At) → Later openNumbers no5 r p behind (d .at) (K (x, d)) (K (x, clip p d)))
+      → Later openNumbers no5 r p behind (c .at) (word c >>= K) (word (clip p c) >>= K)
+  count c K k = field-later openNumbers no5 r p behind word word-field c K k
 
   exact-later : (t : ChannelType) → Opens (exact t)
   unfolding exact
-  exact-later t c = end-later openNumbers no5 r c _ t refl
+  exact-later t c = end-later openNumbers no5 r p behind c _ t refl
 
   x11-later : Opens x11
   unfolding x11
@@ -165,8 +162,8 @@ module _ (no5 : member 5 openNumbers ≡ false) (r : Refusal) where
   unfolding forwardedStreamLocal
   forwarded-later c = text c _ (λ _ c₁. text c₁ _ (λ _ c₂. exact-later _ c₂))
 
-  picks : (b : Bool) (a : ℕ) (x y x′ y′ : Out ChannelType) → Later openNumbers no5 r a x x′ → Later openNumbers no5 r a y y′
-      → Later openNumbers no5 r a (pick b x y) (pick b x′ y′)
+  picks : (b : Bool) (a : ℕ) (x y x′ y′ : Out ChannelType) → Later openNumbers no5 r p behind a x x′ → Later openNumbers no5 r p behind a y y′
+      → Later openNumbers no5 r p behind a (pick b x y) (pick b x′ y′)
   picks true a x y x′ y′ p q = p
   picks false a x y x′ y′ p q = q
 
@@ -180,35 +177,36 @@ module _ (no5 : member 5 openNumbers ≡ false) (r : Refusal) where
       (picks (same (t .bytes) (bytes "direct-streamlocal@openssh.com")) _ _ _ _ _ (direct-later c)
       (picks (same (t .bytes) (bytes "forwarded-streamlocal@openssh.com")) _ _ _ _ _ (forwarded-later c)
       (picks (same (t .bytes) (bytes "auth-agent@openssh.com")) _ _ _ _ _ (exact-later AgentForward c)
-      (value-later openNumbers no5 r (c .at) _ _)))))))
+      (value-later openNumbers no5 r p behind (c .at) _ _)))))))
 
-  open-later : (b : List ℕ) → Later openNumbers no5 r 0 (readOpen b) (readOpen (take (r .offset) b))
+  open-later : (b : List ℕ) → Later openNumbers no5 r p behind 0 (readOpen b) (readOpen (take p b))
   unfolding readOpen member
   open-later b =
-      gate openNumbers no5 r 1 (leb (length b) mostBody) (leb (length (take (r .offset) b)) mostBody) 0 _ _ refl (λ z. omega arith)
-      (λ _ e. shorter b (r .offset) mostBody e) (λ _.
-      named-later openNumbers no5 r 0 _ _ _ (λ l. rw (clip-here b 0 (r .offset) (omega arith) l))
+      gate openNumbers no5 r p behind 1 (leb (length b) mostBody) (leb (length (take p b)) mostBody) 0 _ _ refl (λ z. omega arith)
+      (λ _ e. shorter b p mostBody e) (λ _.
+      named-later openNumbers no5 r p behind 0 _ _ _ (λ l. rw (clip-here b 0 p (omega arith) (omega arith)))
       (text (here b 0) _ (λ t c.
-      granted-later openNumbers no5 r c _ (λ o d.
-      made-later openNumbers no5 r _ (d .at) (channelType t d) (channelType t (clip (r .offset) d)) (type-later t d)))))
+      granted-later openNumbers no5 r p behind c _ (λ o d.
+      made-later openNumbers no5 r p behind _ (d .at) (channelType t d) (channelType t (clip p d)) (type-later t d)))))
+
+-- what is so at every cut, and so at the offset itself
+module _ {A : Type 0} (ns : List ℕ) (no5 : member 5 ns ≡ false) (f : List ℕ → Out A)
+    (later : (r : Refusal) (p : ℕ) (behind : r .offset ≤ p) (s : List ℕ) → Later ns no5 r p behind 0 (f s) (f (take p s))) where
+  broke : Broke ns f
+  broke =
+      record {
+        lacks = λ s r e k.
+            let w = later r (r .offset) (omega arith) s .met e .1 .stays k in
+            w .1 ∙ ap (λ (n : ℕ). refuseAt n (r .offset)) (w .2 refl);
+        stays = λ s r e k p l. let w = later r p l s .met e .1 .stays k in (w .0, w .1);
+        accepts = λ s r e k. later r (r .offset) (omega arith) s .met e .1 .accepts k refl;
+      }
 
 pub each-broke : EachBroke
 unfolding member
 each-broke =
     record {
-      kexInit = λ t b.
-          record {
-            lacks = λ s r e k. kex-later t b refl r s .met e .1 .lacks k;
-            accepts = λ s r e k. kex-later t b refl r s .met e .1 .accepts k;
-          };
-      opening =
-          record {
-            lacks = λ s r e k. open-later refl r s .met e .1 .lacks k;
-            accepts = λ s r e k. open-later refl r s .met e .1 .accepts k;
-          };
-      confirmation =
-          record {
-            lacks = λ s r e k. confirmation-later refl r s .met e .1 .lacks k;
-            accepts = λ s r e k. confirmation-later refl r s .met e .1 .accepts k;
-          };
+      kexInit = λ t b. broke kexNumbers refl (readKex t b) (kex-later t b refl);
+      opening = broke openNumbers refl readOpen (open-later refl);
+      confirmation = broke (2 ∷ 6 ∷ []) refl readConfirmation (confirmation-later refl);
     }

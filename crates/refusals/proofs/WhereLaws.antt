@@ -3,7 +3,7 @@ use mathlib.Core.Path.{_≡_, refl, sym, ap, _∙_}
 use mathlib.Core.Bool.{Bool, true, false, _&&_, true≢false}
 use mathlib.Core.List.{List}
 use mathlib.Core.Option.{Option, some, none}
-use Prim.Native.Nat.{ℕ, _+_, _-_, _≤_}
+use Prim.Native.Nat.{ℕ, _+_, _-_, _≤_, _<_}
 use native.Mathlib.Omega.{arith}
 use lib.Dec.{leb}
 use lib.ListN.{length, take, drop}
@@ -15,7 +15,7 @@ use Rattle.text.specs.Same.{same}
 use Rattle.wire.specs.Fields.{At, here, end}
 use Rattle.filters.specs.Picked.{member}
 use Rattle.negotiation.specs.Read.{settle, settleMac, needsMac, noMac}
-use Rattle.refusals.proofs.CutLaws.{clip, clip-none, Reads, bad, good, Field}
+use Rattle.refusals.proofs.CutLaws.{clip, clip-none, before, Reads, bad, good, Field}
 
 -- a judgement of what a field holds: it refuses at the field's place, if at all
 pub data Judges {Y : Type 0} (j : ℕ) : Out Y → Type 0 where
@@ -43,21 +43,18 @@ clip-here s k i h l =
     ap (λ (x : List ℕ). record { at = k; left = x })
     (sym (ap (λ (m : ℕ). drop k (take m s)) e ∙ rw take-add (drop-at (take k s) (take (i - k) (drop k s)) k (length-take-le k s h))))
 
-module _ (ns : List ℕ) (no5 : member 5 ns ≡ false) (r : Refusal) where
+module _ (ns : List ℕ) (no5 : member 5 ns ≡ false) (r : Refusal) (p : ℕ) (behind : r .offset ≤ p) where
   abbrev i : ℕ
   i = r .offset
 
-  -- what is so of the cut input, if the whole one is refused with r
+  -- what is so of the input cut at p, if the whole one is refused with r
   pub record Met {A : Type 0} (m : Out A) : Type 0 where
-    pub lacks : member (r .number) ns ≡ true → m ≡ refuseAt 2 i
-    pub accepts : r .number ≡ 5 → (a : A) × (m ≡ done a)
+    pub stays : member (r .number) ns ≡ true → (n : ℕ) × (m ≡ refuseAt n i) × (p ≡ i → n ≡ 2)
+    pub accepts : r .number ≡ 5 → p ≡ i → (a : A) × (m ≡ done a)
 
   -- a block whose first field stands at a, and the same of the cut input
   pub record Later {A : Type 0} (a : ℕ) (m : Out A) (m′ : Out A) : Type 0 where
     pub met : m ≡ refused r → (a ≤ i) × Met m′
-
-  missing-met : {A : Type 0} (n : ℕ) (m : Out A) → (n ≡ 5 → ⊥) → r .number ≡ n → m ≡ refuseAt 2 i → Met m
-  missing-met n m z e f = record { lacks = λ _. f; accepts = λ g. absurd (z (sym e ∙ g)) }
 
   pub value-later : {A : Type 0} (a : ℕ) (v : A) (m : Out A) → Later a (done v) m
   value-later a v m = record { met = λ h. absurd (not-both h) }
@@ -73,7 +70,7 @@ module _ (ns : List ℕ) (no5 : member 5 ns ≡ false) (r : Refusal) where
       record {
         met = λ h.
             let w = l .met (ap refused (un-refused h)) in
-            (w .0, record { lacks = λ k. rw (w .1 .lacks k); accepts = λ k. let v = w .1 .accepts k in (g (v .0), rw (v .1)) });
+            (w .0, record { stays = λ k. let v = w .1 .stays k in (v .0, rw (v .1), v .2); accepts = λ k z. let v = w .1 .accepts k z in (g (v .0), rw (v .1)) });
       }
   made-later g a (done x) m′ l = record { met = λ h. absurd (not-both h) }
 
@@ -87,59 +84,70 @@ module _ (ns : List ℕ) (no5 : member 5 ns ≡ false) (r : Refusal) where
       record {
         met = λ h.
             let e : n ≡ r .number = ap (λ (q : Refusal). q .number) (un-refused h) in
-            (omega arith, record { lacks = λ m. absurd (true≢false (sym m ∙ ap (λ (x : ℕ). member x ns) (sym e) ∙ k)); accepts = λ g. absurd (z (e ∙ g)) });
+            (omega arith, record { stays = λ m. absurd (true≢false (sym m ∙ ap (λ (x : ℕ). member x ns) (sym e) ∙ k)); accepts = λ g _. absurd (z (e ∙ g)) });
       }
 
   module _ {X B : Type 0} (f : At → Out (X × At)) (F : Field f) (c : At) where
-    stopped : (K : X × At → Out B) → c .at ≡ i → (f (clip i c) >>= K) ≡ refuseAt 2 i
+    -- cut in front of it the field is missing
+    missing-two : (K : X × At → Out B) (m : ℕ) → (f (clip p c) >>= K) ≡ refuseAt m (c .at) → p ≡ c .at → m ≡ 2
     unfolding _>>=_
-    stopped K e = rw (clip-none i c e, F .missing (c .at), e)
+    missing-two K m e w =
+        let g : refuseAt 2 (c .at) ≡ refuseAt m (c .at) = rw (clip-none p c (sym w), F .missing (c .at)) at e in
+        sym (ap (λ (x : Refusal). x .number) (un-refused g))
 
     -- it is refused where this field stands, by the field or by a judgement of it
-    here-later : (K : X × At → Out B) (n : ℕ) → (n ≡ 5 → ⊥) → (f c >>= K) ≡ refuseAt n (c .at) → Later (c .at) (f c >>= K) (f (clip i c) >>= K)
-    here-later K n z e =
+    here-later : (K : X × At → Out B) (n : ℕ) → (n ≡ 5 → ⊥) → (f c >>= K) ≡ refuseAt n (c .at)
+        → (m : ℕ) × ((f (clip p c) >>= K) ≡ refuseAt m (c .at)) → Later (c .at) (f c >>= K) (f (clip p c) >>= K)
+    here-later K n z e y =
         record {
           met = λ h.
               let q = un-refused (sym e ∙ h) in
               let a : c .at ≡ i = ap (λ (x : Refusal). x .offset) q in
-              (omega arith, missing-met n _ z (sym (ap (λ (x : Refusal). x .number) q)) (stopped K a));
+              let b : n ≡ r .number = ap (λ (x : Refusal). x .number) q in (
+                omega arith,
+                record {
+                  stays = λ _. (y .0, y .1 ∙ ap (λ (x : ℕ). refuseAt (y .0) x) a, λ w. missing-two K (y .0) (y .1) (w ∙ sym a));
+                  accepts = λ g _. absurd (z (b ∙ g));
+                },
+              );
         }
 
     -- a field
-    field-from : (K : X × At → Out B) → ((x : X) (d : At) → Later (d .at) (K (x, d)) (K (x, clip i d)))
-        → Reads f c → Later (c .at) (f c >>= K) (f (clip i c) >>= K)
+    field-from : (K : X × At → Out B) → ((x : X) (d : At) → Later (d .at) (K (x, d)) (K (x, clip p d)))
+        → Reads f c → Later (c .at) (f c >>= K) (f (clip p c) >>= K)
     unfolding _>>=_
-    field-from K k (bad n e z) = here-later K n z (rw e)
-    field-from K k (good x d e o s) =
-        record { met = λ h. let w = k x d .met (rw e at h) in (omega (arith, w .0), rw (s i (w .0)) (w .1)) }
+    field-from K k (bad n e z y) = here-later K n z (rw e) (y p .0, rw (y p .1))
+    field-from K k (good x d e o s y) =
+        record { met = λ h. let w = k x d .met (rw e at h) in (omega (arith, w .0), rw (s p (omega (arith, behind, w .0))) (w .1)) }
 
-    pub field-later : (K : X × At → Out B) → ((x : X) (d : At) → Later (d .at) (K (x, d)) (K (x, clip i d)))
-        → Later (c .at) (f c >>= K) (f (clip i c) >>= K)
+    pub field-later : (K : X × At → Out B) → ((x : X) (d : At) → Later (d .at) (K (x, d)) (K (x, clip p d)))
+        → Later (c .at) (f c >>= K) (f (clip p c) >>= K)
     field-later K k = field-from K k (F .reads c)
 
     -- a field, and a judgement of what it holds
     module _ {Y : Type 0} (J : X → Out Y) (j : (x : X) → Judges (c .at) (J x)) (K : Y → X × At → Out B)
-        (k : (y : Y) (x : X) (d : At) → Later (d .at) (K y (x, d)) (K y (x, clip i d))) where
+        (k : (y : Y) (x : X) (d : At) → Later (d .at) (K y (x, d)) (K y (x, clip p d))) where
       abbrev then : X × At → Out B
       then x = J (x .0) >>= λ y. K y x
 
       judged-now : (x : X) (d : At) → f c ≡ done (x, d) → c .at ≤ d .at → ((n : ℕ) → d .at ≤ n → f (clip n c) ≡ done (x, clip n d))
-          → (m : Out Y) → J x ≡ m → Judges (c .at) m → Later (c .at) (f c >>= then) (f (clip i c) >>= then)
+          → ((n : ℕ) → n < d .at → f (clip n c) ≡ refuseAt 2 (c .at)) → (m : Out Y) → J x ≡ m → Judges (c .at) m → Later (c .at) (f c >>= then) (f (clip p c) >>= then)
       unfolding _>>=_
-      judged-now x d e o s m g (fails n z) = here-later then n z (rw (e, g))
-      judged-now x d e o s m g (passes y) =
-          record { met = λ h. let w = k y x d .met (rw (e, g) at h) in (omega (arith, w .0), rw (s i (w .0), g) (w .1)) }
+      judged-now x d e o s t m g (fails n z) =
+          here-later then n z (rw (e, g)) (before p (d .at) (λ b. (2, rw (t p b))) (λ b. (n, rw (s p b, g))))
+      judged-now x d e o s t m g (passes y) =
+          record { met = λ h. let w = k y x d .met (rw (e, g) at h) in (omega (arith, w .0), rw (s p (omega (arith, behind, w .0)), g) (w .1)) }
 
-      judged-from : Reads f c → Later (c .at) (f c >>= then) (f (clip i c) >>= then)
+      judged-from : Reads f c → Later (c .at) (f c >>= then) (f (clip p c) >>= then)
       unfolding _>>=_
-      judged-from (bad n e z) = here-later then n z (rw e)
-      judged-from (good x d e o s) = judged-now x d e o s (J x) refl (j x)
+      judged-from (bad n e z y) = here-later then n z (rw e) (y p .0, rw (y p .1))
+      judged-from (good x d e o s t) = judged-now x d e o s t (J x) refl (j x)
 
-      pub judged-later : Later (c .at) (f c >>= then) (f (clip i c) >>= then)
+      pub judged-later : Later (c .at) (f c >>= then) (f (clip p c) >>= then)
       judged-later = judged-from (F .reads c)
 
   -- the end, and what is then given
-  pub end-later : {B : Type 0} (c : At) (K : Unit {0} → Out B) (b : B) → K tt ≡ done b → Later (c .at) (end c >>= K) (end (clip i c) >>= K)
+  pub end-later : {B : Type 0} (c : At) (K : Unit {0} → Out B) (b : B) → K tt ≡ done b → Later (c .at) (end c >>= K) (end (clip p c) >>= K)
   unfolding end _>>=_
   end-later c K b e =
       split (leb (length (c .left)) 0)
@@ -152,8 +160,8 @@ module _ (ns : List ℕ) (no5 : member 5 ns ≡ false) (r : Refusal) where
             let n : r .number ≡ 5 = sym (ap (λ (v : Refusal). v .number) q) in (
               omega arith,
               record {
-                lacks = λ m. absurd (true≢false (sym m ∙ ap (λ (x : ℕ). member x ns) n ∙ no5));
-                accepts = λ _. (b, ap (λ (x : At). end x >>= K) (clip-none i c a) ∙ e);
+                stays = λ m. absurd (true≢false (sym m ∙ ap (λ (x : ℕ). member x ns) n ∙ no5));
+                accepts = λ _ w. (b, ap (λ (x : At). end x >>= K) (clip-none p c (a ∙ sym w)) ∙ e);
               },
             );
       })

@@ -35,10 +35,13 @@ pub record EachReader : Type 0 where
   pub confirmation : (b : List ℕ) → Refuses (1 ∷ 2 ∷ 6 ∷ []) b (readConfirmation b)
   pub place : (s : List ℕ) (p : Place) → Refuses (2 ∷ []) s (shown s p)
 
--- And the offset is where it broke: what stands before it is read as before, so that cut there the input lacks just the field
--- that offends, which is 2 at that offset; and cut where bytes are left over (5) it is accepted.
+-- And the offset is where it broke. What stands before it is fine: cut there, the input lacks just the field that starts there,
+-- which is 2 at that offset; and cut where bytes are left over (5) it is accepted. And it is that field which offends: wherever
+-- the input is cut from the offset on, it is refused at that offset, as it would not be for the start of an earlier field.
 pub record Broke {A : Type 0} (numbers : List ℕ) (f : List ℕ → Out A) : Type 0 where
   pub lacks : (s : List ℕ) (r : Refusal) → f s ≡ refused r → member (r .number) numbers ≡ true → f (take (r .offset) s) ≡ refuseAt 2 (r .offset)
+  pub stays : (s : List ℕ) (r : Refusal) → f s ≡ refused r → member (r .number) numbers ≡ true → (p : ℕ) → r .offset ≤ p
+      → (n : ℕ) × (f (take p s) ≡ refuseAt n (r .offset))
   pub accepts : (s : List ℕ) (r : Refusal) → f s ≡ refused r → r .number ≡ 5 → (a : A) × (f (take (r .offset) s) ≡ done a)
 
 -- 6 is a maximum packet of 0 here, and of a KEXINIT that it is short
