@@ -18,7 +18,7 @@ use Rattle.negotiation.specs.declared.Names.{Names}
 use Rattle.negotiation.specs.Written.{key_list, cipher_list, mac_list, compression_list}
 use Rattle.negotiation.specs.Read.{needs_mac, no_mac, settle, settle_mac, Choices}
 use Rattle.agreement.specs.Protected.{protecting}
-use Rattle.agreement.specs.Both.{settling, kex_offer, shared, both_strict, both}
+use Rattle.agreement.specs.Both.{settling, kex_offer, both_strict, both}
 use Rattle.agreement.specs.Ended.{MacOf, Accepted, Lacks, FirstLacking}
 use Rattle.judging.proofs.ValidLaws.{Valid}
 use Rattle.agreement.proofs.NumberLaws.{made_of}

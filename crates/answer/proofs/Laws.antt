@@ -1,10 +1,10 @@
 -- Laws of answers that every layer cites. Assumes nothing.
 use mathlib.Core.Path.{◌≡◌, refl, sym}
-use mathlib.Core.Bool.{Bool, true, false, not, ◌&&◌}
+use mathlib.Core.Bool.{Bool, true, false, ◌&&◌}
 use Prim.Native.Nat.{ℕ}
 use native.Mathlib.Omega.{arith}
 use Rattle.answer.specs.declared.Refusal.{Refusal}
-use Rattle.answer.specs.Answer.{Out, refused, done, guard, refuse, pick, ◌>>=◌}
+use Rattle.answer.specs.Answer.{Out, refused, done, guard, refuse, ◌>>=◌}
 
 -- the refusal that carries n, for what stands at i; at 0
 abbrev pub NoAt : ℕ → ℕ → Refusal → Type 0

@@ -1,4 +1,6 @@
 // What every layer answers with when it cannot go on: a refusal that carries a number of document 01, and says where.
+#![tactic(auto)]
+
 ghost use Rattle.std.specs.Prelude.{◌≡◌};
 
 // The numbers (document 01, "Numbers a refusal carries"), named as include/harupesat.h names them.
@@ -36,7 +38,7 @@ pub const NOTHING: u8 = 0;
 // A refusal's number, and the offset at which the offending field's first byte stands: in a payload or body from its first
 // byte, in framing from the packet's (document 02, No. 6). What no field offends has offset 0. Readers alone answer with it: a
 // writer's refusal is a number. The offset stands first, since an opening is then read in fewer instructions.
-#[derive(Drop)]
+#[derive(Clone, Copy)]
 pub struct Refusal {
     pub offset: usize,
     pub number: u8,

@@ -1,10 +1,9 @@
 -- Every place in an accepted opening lies inside the body that was read. Assumes nothing.
 use mathlib.Core.Path.{◌≡◌}
-use mathlib.Core.Bool.{not}
 use mathlib.Core.List.{List, []}
 use Prim.Native.Nat.{ℕ, ◌+◌}
 use native.Mathlib.Omega.{arith}
-use lib.Dec.{leb, eqb}
+use lib.Dec.{leb}
 use lib.ListN.{length, drop}
 use Rattle.answer.specs.Answer.{done, guard}
 use Rattle.answer.proofs.WalkLaws.{Post, at_end, go_on, of_accepted}

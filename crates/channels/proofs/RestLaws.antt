@@ -24,7 +24,18 @@ known_rest (ForwardedStreamLocal info) k = refl
 known_rest AgentForward k = refl
 known_rest (Unknown typ rest) k = absurd (miss known 7 tt k)
 
+-- the same, where a match's last arm says only what the type is not
+pub rest_of_known : (t : ChannelType) → ((p rest : Place) → t ≡ Unknown p rest → ⊥) → ◌≡◌ {A = Place} (record { start = 0; len = 0 }) (rest_of t)
+rest_of_known Session k = refl
+rest_of_known (X11 address port) k = refl
+rest_of_known (DirectTcpip info) k = refl
+rest_of_known (DirectStreamLocal info) k = refl
+rest_of_known (ForwardedTcpIp info) k = refl
+rest_of_known (ForwardedStreamLocal info) k = refl
+rest_of_known AgentForward k = refl
+rest_of_known (Unknown typ rest) k = absurd (k typ rest refl)
+
 pub unknown_rest : (t : ChannelType) (p rest : Place) → t ≡ Unknown p rest → rest ≡ rest_of t
 unknown_rest t p rest e = rw e
 
-pub ruleset rest_laws = (known_rest, unknown_rest)
+pub ruleset rest_laws = (known_rest, rest_of_known, unknown_rest)

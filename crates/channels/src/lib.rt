@@ -1,5 +1,7 @@
 // Channel opening (RFC 4254 sections 5.1, 6.3.2 and 7.2): src/parsing.rs of russh. A string of a record is a place in the
 // body that was read; `wire::show::show` hands each of them back as the part of the lent slice that it is.
+#![tactic(auto)]
+
 ghost use Rattle.std.specs.Prelude.{◌≡◌, ◌+◌};
 ghost use Rattle.wire.specs.Shown.{shown, refusal_of, bytes_of, start_of};
 ghost use Rattle.channels.specs.Open.{read_open, rest_of, got_open};
@@ -10,7 +12,7 @@ use replies::offer::{GotOffer, MOST_BODY, read_offer};
 use wire::answers::{Cursor, GotText, Place};
 
 // Named, as in the Rust, for whoever answers: the opening's sender is the recipient of the answer.
-#[derive(Drop)]
+#[derive(Clone, Copy)]
 pub struct OpenChannelMessage {
     pub typ: ChannelType,
     pub recipient_channel: u32,
@@ -18,7 +20,7 @@ pub struct OpenChannelMessage {
     pub recipient_maximum_packet_size: u32,
 }
 
-#[derive(Drop)]
+#[derive(Clone, Copy)]
 pub enum GotOpen {
     Message(OpenChannelMessage),
     Refused(Refusal),

@@ -1,6 +1,6 @@
 -- Laws of the choice: the rule over names, and how a chosen row stands for a chosen name. Assumes nothing.
 use mathlib.Core.Path.{◌≡◌, refl, sym, ap, ◌∙◌}
-use mathlib.Core.Bool.{Bool, true, false, not}
+use mathlib.Core.Bool.{Bool, true, false}
 use mathlib.Core.List.{List, [], ◌∷◌}
 use mathlib.Core.Option.{Option, some, none, map, or_else}
 use Prim.Native.Nat.{ℕ, ◌<◌}

@@ -4,7 +4,6 @@ use mathlib.Core.Bool.{Bool, true, not}
 use mathlib.Core.List.{List, [], ◌∷◌, map}
 use mathlib.Core.Option
 use mathlib.Core.Option.{some, none}
-use Rattle.answer.specs.Answer.{pick}
 use Rattle.answer.proofs.Laws.{split, and_left, and_right}
 use Rattle.commas.specs.Cut.{every}
 use Rattle.choice.specs.Choice.{first, kept}

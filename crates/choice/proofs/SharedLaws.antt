@@ -8,7 +8,6 @@ use borrow.Author.Tests.{not-true}
 use Rattle.answer.proofs.Laws.{split, never}
 use Rattle.text.specs.Same.{same}
 use Rattle.text.proofs.SameLaws.{same_self}
-use Rattle.commas.specs.Cut.{every}
 use Rattle.choice.specs.declared.Side.{Side}
 use Rattle.choice.specs.declared.Side.TheVariants.{Client, Server}
 use Rattle.choice.specs.Choice.{first as first_of, listed, first_shared, First, NoneShared, chosen}

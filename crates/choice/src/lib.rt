@@ -3,6 +3,8 @@
 //
 // Copyright 2016 Pierre-Étienne Meunier, licensed under the Apache License, Version 2.0 (NOTICE); changed: rewritten for
 // lent slices and tables of numbers.
+#![tactic(auto)]
+
 ghost use Rattle.std.specs.Prelude.{◌≡◌, ◌+◌, ◌≤◌, length};
 ghost use Rattle.commas.specs.Cut.{cut};
 ghost use Rattle.wire.specs.Shown.{part};
@@ -20,14 +22,14 @@ ghost use Rattle.choice.specs.Rows.{
 use names::wide;
 use wire::answers::{Cursor, NextName, Place};
 
-#[derive(Drop)]
+#[derive(Clone, Copy)]
 pub enum Side {
     Client,
     Server,
 }
 
 // The row of the own list's name that was chosen, or that no name is shared.
-#[derive(Drop)]
+#[derive(Clone, Copy)]
 pub enum Chosen {
     Row(u8),
     Nothing,

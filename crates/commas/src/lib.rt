@@ -1,4 +1,6 @@
 // Where a name of a name-list ends (RFC 4251 section 5): at the next comma, or at the end of the list.
+#![tactic(auto)]
+
 ghost use Rattle.std.specs.Prelude.{◌≡◌, ◌+◌, ◌≤◌, not, eqb, length, take, drop};
 ghost use Rattle.commas.specs.Cut.{name_length, no_comma};
 

@@ -1,18 +1,15 @@
 -- Every list that is made fits: what is pushed one by one is the list that the definition has. Certificate names each
 -- come from the key list and each once, so there are no more of them than key numbers. Assumes nothing.
 use mathlib.Core.Path.{◌≡◌, refl, sym, ap, ◌∙◌}
-use mathlib.Core.Bool.{Bool, true, false, not, ◌&&◌, ◌||◌}
-use mathlib.Core.List.{List, [], ◌∷◌, ◌++◌, map, append-nil, append_assoc}
-use Prim.Native.Nat.{ℕ, zero, suc, ◌+◌, ◌-◌, ◌≤◌, ◌<◌}
+use mathlib.Core.Bool.{Bool, true, false}
+use mathlib.Core.List.{List, [], ◌∷◌, ◌++◌, append-nil}
+use Prim.Native.Nat.{ℕ, suc, ◌+◌, ◌-◌, ◌≤◌, ◌<◌}
 use native.Mathlib.Omega.{arith}
-use native.Mathlib.Numerals.{add-one}
-use borrow.Author.Tests.{lt-ltb, eqb-true, eq-eqb, ne_eqb, eqb-false}
-use lib.Dec.{eqb, ltb}
-use lib.ListN.{length, set, take, replicate, length-append}
+use borrow.Author.Tests.{lt-ltb}
+use lib.ListN.{length, replicate, length-append}
 use lib.Seq.{set-append_seam, take-append_seam, append_snoc}
 use Rattle.answer.specs.Answer.{pick}
-use Rattle.answer.proofs.Laws.{split, and_left, and_right}
-use Rattle.filters.specs.declared.RowList.{RowList}
+use Rattle.answer.proofs.Laws.{split}
 use Rattle.filters.specs.Picked.{member, of_kind, added, certificates}
 use Rattle.filters.specs.Made.{row_list, most_own, shown, pushed, joined, joined_once, certified}
 use Rattle.filters.proofs.MadeLaws.{once_there, once_new}

@@ -1,15 +1,14 @@
 -- How long the lists get, and that their numbers stay below their table's count: whatever is kept or added comes from
 -- the lists that were judged. Certificate names each come from the key list, and each once, so there are no more of
 -- them than key numbers, however many rows there are. Assumes nothing.
-use mathlib.Core.Path.{◌≡◌, refl, sym, ap, ◌∙◌}
-use mathlib.Core.Bool.{Bool, true, false, not, ◌&&◌, ◌||◌, or-false}
+use mathlib.Core.Path.{◌≡◌, refl, ap, ◌∙◌}
+use mathlib.Core.Bool.{Bool, true, false, not, ◌||◌, or-false}
 use mathlib.Core.List.{List, [], ◌∷◌, ◌++◌}
-use Prim.Native.Nat.{ℕ, ◌+◌, ◌≤◌, ◌<◌}
+use Prim.Native.Nat.{ℕ, ◌+◌, ◌≤◌}
 use native.Mathlib.Omega.{arith}
 use borrow.Author.Tests.{eqb-true, eq-eqb}
 use lib.Dec.{eqb, ltb}
 use lib.ListN.{length, length-append}
-use Rattle.answer.specs.Answer.{pick}
 use Rattle.answer.proofs.Laws.{split, and_left, and_right}
 use Rattle.judging.specs.Tables.{below}
 use Rattle.choice.specs.Choice.{kept}

@@ -3,6 +3,8 @@
 //
 // Copyright 2016 Pierre-Étienne Meunier, licensed under the Apache License, Version 2.0 (NOTICE); changed: rewritten for
 // lent slices and tables of numbers.
+#![tactic(auto)]
+
 ghost use Rattle.std.specs.Prelude.{◌≡◌, not, ◌&&◌, [], eqb};
 ghost use Rattle.answer.specs.Answer.{pick};
 ghost use Rattle.filters.specs.Picked.{member, without, held, of_kind, kind_of};
@@ -15,7 +17,7 @@ use text::front;
 pub const MOST_OWN: usize = 2 * MOST_ENTRIES;
 
 // Rows of the name table, `len` of them, and 0 after them.
-#[derive(Drop)]
+#[derive(Clone, Copy)]
 pub struct RowList {
     pub rows: [u8; MOST_OWN],
     pub len: usize,

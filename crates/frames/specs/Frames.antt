@@ -1,11 +1,8 @@
 -- A packet that was read, and one that was written, as structs (crates/shapes/specs/Shapes.antt).
 use Rattle.std.specs.Prelude.{ℕ}
 use Rattle.answer.specs.Answer.{Out, refused, done}
-use Rattle.answer.specs.declared.Refusal.{Refusal}
-use Rattle.wire.specs.declared.answers.Place.{Place}
 use Rattle.framing.specs.Clear.{Read, need, packet}
 use Rattle.framing.specs.declared.Counters.{Counters}
-use Rattle.framing.specs.declared.Packet.{Packet}
 use Rattle.frames.specs.declared.Frame.{Frame}
 use Rattle.frames.specs.declared.Sealed.{Sealed}
 

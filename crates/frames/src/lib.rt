@@ -1,4 +1,6 @@
 // Clear packets as they cross the border: what was read, and what was written.
+#![tactic(auto)]
+
 ghost use Rattle.std.specs.Prelude.{◌≡◌};
 ghost use Rattle.framing.specs.Answers.{got_packet, wrote};
 ghost use Rattle.frames.specs.Frames.{no_packet, frame_of, sealed_of};
@@ -7,7 +9,7 @@ use framing::GotPacket;
 use shapes::{DONE, NEED, REFUSED};
 
 #[repr(C)]
-#[derive(Drop)]
+#[derive(Clone, Copy)]
 pub struct Frame {
     pub what: u8,
     pub number: u8,
@@ -22,7 +24,7 @@ pub struct Frame {
 }
 
 #[repr(C)]
-#[derive(Drop)]
+#[derive(Clone, Copy)]
 pub struct Sealed {
     pub what: u8,
     pub number: u8,

@@ -1,5 +1,5 @@
 -- Laws of what is read: when each answer is given, and what a caller may rely on. Assumes nothing.
-use Rattle.std.proofs.Common.{◌≡◌, ℕ, ◌+◌, ◌-◌, ◌<◌, ◌≤◌, ltb, leb, List, length, sym, arith, ltb-false, ltb-true, leb-false, leb-true}
+use Rattle.std.proofs.Common.{◌≡◌, ℕ, ◌+◌, ◌<◌, ◌≤◌, ltb, leb, List, length, sym, arith, ltb-false, ltb-true, leb-false, leb-true}
 use Rattle.answer.specs.Answer.{Out, done, refuse, refuse_at, ◌>>=◌}
 use Rattle.answer.proofs.Laws.{split, not_both}
 use Rattle.wire.specs.Shown.{shown, part}

@@ -3,6 +3,8 @@
 //
 // Copyright 2016 Pierre-Étienne Meunier, licensed under the Apache License, Version 2.0 (NOTICE); changed: rewritten for
 // lent slices and tables of numbers.
+#![tactic(auto)]
+
 ghost use Rattle.std.specs.Prelude.{◌≡◌};
 ghost use Rattle.wire.specs.Answers.{checked};
 ghost use Rattle.framing.specs.Clear.{judged_length, judged_padding, counted};
@@ -23,14 +25,14 @@ const MAXIMUM_PACKET_LEN: usize = 262177;
 const PADDING_AT: usize = 4;
 
 // What a direction counts: packets, modulo 2^32, and payload bytes.
-#[derive(Drop)]
+#[derive(Clone, Copy)]
 pub struct Counters {
     pub seqn: u32,
     pub bytes: u64,
 }
 
 // A packet that stands whole in the slice.
-#[derive(Drop)]
+#[derive(Clone, Copy)]
 pub struct Packet {
     pub payload: Place,
     pub end: usize,
@@ -38,7 +40,7 @@ pub struct Packet {
     pub counters: Counters,
 }
 
-#[derive(Drop)]
+#[derive(Clone, Copy)]
 pub enum GotPacket {
     Need(usize),
     Whole(Packet),
@@ -46,7 +48,7 @@ pub enum GotPacket {
 }
 
 // How many bytes were written and the counters after them, or the number of the refusal.
-#[derive(Drop)]
+#[derive(Clone, Copy)]
 pub enum Sealed {
     Total(usize, Counters),
     Refused(u8),

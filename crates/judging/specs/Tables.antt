@@ -1,5 +1,5 @@
 -- The local tables, all lent (document 01, "Names and their numbers"), and when they are refused with 9.
-use Rattle.std.specs.Prelude.{Bool, true, false, not, ◌&&◌, ◌||◌, List, [], ◌∷◌, ℕ, leb, ltb, eqb, length}
+use Rattle.std.specs.Prelude.{Bool, true, not, ◌&&◌, ◌||◌, List, [], ◌∷◌, ℕ, leb, ltb, eqb, length}
 use Rattle.commas.specs.Cut.{every}
 use Rattle.names.specs.Tables.{names_of}
 use Rattle.names.specs.declared.Kind.{Kind}

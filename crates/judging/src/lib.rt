@@ -2,6 +2,8 @@
 //
 // Copyright 2016 Pierre-Étienne Meunier, licensed under the Apache License, Version 2.0 (NOTICE); changed: rewritten for
 // lent slices and tables of numbers.
+#![tactic(auto)]
+
 ghost use Rattle.std.specs.Prelude.{◌≡◌, not, ◌||◌, min, ltb, eqb};
 ghost use Rattle.judging.specs.Tables.{below, good_list, good_row_table, agrees, consistent, may_lend, good_lists, good_tables, valid};
 

@@ -2,7 +2,6 @@
 use Rattle.std.specs.Prelude.{Bool, false, ℕ}
 use Rattle.std.proofs.Math.Option.{Option, some, none}
 use Rattle.answer.specs.Answer.{Out, refused, done}
-use Rattle.answer.specs.declared.Refusal.{Refusal}
 use Rattle.kinds.specs.declared.Number.{Number}
 use Rattle.kinds.specs.declared.Truth.{Truth}
 

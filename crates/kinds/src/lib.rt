@@ -1,5 +1,7 @@
 // Names as they cross the border: a kind by its number, what a lookup and a column of the ciphers answer, and the default
 // lists.
+#![tactic(auto)]
+
 ghost use Rattle.std.specs.Prelude.{◌≡◌};
 ghost use Rattle.answer.specs.Answer.{done};
 ghost use Rattle.put.specs.Written.{written, buffer, put};
@@ -15,7 +17,7 @@ use put::Put;
 use shapes::{DONE, REFUSED, UNKNOWN};
 
 #[repr(C)]
-#[derive(Drop)]
+#[derive(Clone, Copy)]
 pub struct Number {
     pub what: u8,
     pub number: u8,
@@ -23,14 +25,14 @@ pub struct Number {
 }
 
 #[repr(C)]
-#[derive(Drop)]
+#[derive(Clone, Copy)]
 pub struct Truth {
     pub what: u8,
     pub number: u8,
     pub value: bool,
 }
 
-#[derive(Drop)]
+#[derive(Clone, Copy)]
 pub enum GotKind {
     Of(Kind),
     Refused(u8),

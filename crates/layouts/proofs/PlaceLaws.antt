@@ -1,7 +1,7 @@
 -- Every place in an accepted type lies inside the body that was read, and holds well-formed text; the rest of an unknown type
 -- goes up to the body's end. Assumes nothing.
 use mathlib.Core.Path.{◌≡◌, refl, ◌∙◌}
-use mathlib.Core.Bool.{Bool, true, false}
+use mathlib.Core.Bool.{Bool, true}
 use mathlib.Core.List.{List}
 use Prim.Native.Nat.{ℕ, ◌+◌, ◌-◌, ◌≤◌}
 use Prim.Native.String.{String}

@@ -1,5 +1,7 @@
 // What each channel type carries after the four fields of an opening (RFC 4254 sections 6.3.2 and 7.2; the @openssh.com types
 // follow src/parsing.rs of russh).
+#![tactic(auto)]
+
 ghost use Rattle.std.specs.Prelude.{◌≡◌};
 ghost use Rattle.wire.specs.Fields.{here};
 ghost use Rattle.layouts.specs.Types.{
@@ -18,7 +20,7 @@ ghost use Rattle.layouts.specs.Types.{
 use answer::Refusal;
 use wire::answers::{Checked, Cursor, GotText, GotWord, Place};
 
-#[derive(Drop)]
+#[derive(Clone, Copy)]
 pub struct TcpChannelInfo {
     pub host_to_connect: Place,
     pub port_to_connect: u32,
@@ -26,13 +28,13 @@ pub struct TcpChannelInfo {
     pub originator_port: u32,
 }
 
-#[derive(Drop)]
+#[derive(Clone, Copy)]
 pub struct StreamLocalChannelInfo {
     pub socket_path: Place,
 }
 
 // `rest` is what follows the four fields of a type that is not known.
-#[derive(Drop)]
+#[derive(Clone, Copy)]
 pub enum ChannelType {
     Session,
     X11 {
@@ -50,7 +52,7 @@ pub enum ChannelType {
     },
 }
 
-#[derive(Drop)]
+#[derive(Clone, Copy)]
 pub enum GotType {
     Typ(ChannelType),
     Refused(Refusal),

@@ -1,5 +1,7 @@
 // Name-lists written of rows of the name tables (RFC 4251 section 5): first every row is judged, then the list is
 // measured, then it is written, so that a refusal changes nothing.
+#![tactic(auto)]
+
 ghost use Rattle.std.specs.Prelude.{◌++◌, ◌≡◌, ◌+◌, ◌-◌, ◌≤◌, min, length};
 ghost use Rattle.std.proofs.lemmas.List.Edits.{sets};
 ghost use Rattle.put.specs.Written.{written, buffer, put, word};

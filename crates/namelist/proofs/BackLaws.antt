@@ -1,6 +1,6 @@
 -- What is written reads back, with any bytes after it, wherever the reader is. Assumes nothing.
 use mathlib.Core.Path.{◌≡◌, refl}
-use mathlib.Core.Bool.{true, not, ◌&&◌}
+use mathlib.Core.Bool.{true, not}
 use mathlib.Core.List.{List, [], ◌∷◌, ◌++◌}
 use Prim.Native.Nat.{ℕ, ◌+◌, ◌≤◌}
 use native.Mathlib.Omega.{arith}

@@ -1,6 +1,6 @@
 -- Name-lists (RFC 4251 section 5), as src/helpers.rs of the Rust judges them (docs/DIFFERENCES.md, C2 and C4 to C7).
 use Rattle.std.specs.Prelude.{Bool, not, ◌&&◌, List, [], ◌∷◌, ℕ, ◌+◌, leb, length}
-use Rattle.answer.specs.Answer.{Out, refused, done, guard, guard_at, placed, ◌>>=◌}
+use Rattle.answer.specs.Answer.{Out, done, guard, guard_at, placed, ◌>>=◌}
 use Rattle.text.specs.Utf8.{utf8}
 use Rattle.text.specs.Same.{ascii}
 use Rattle.commas.specs.Cut.{cut, empty}

@@ -1,5 +1,7 @@
 // Name-lists (RFC 4251 section 5) as src/helpers.rs of russh reads them: judged whole. Their names are then walked by
 // `Cursor::name` over the part that was judged.
+#![tactic(auto)]
+
 ghost use Rattle.std.specs.Prelude.{◌≡◌, ◌+◌, ◌≤◌, length};
 ghost use Rattle.text.specs.Same.{highest};
 ghost use Rattle.commas.specs.Cut.{cut};

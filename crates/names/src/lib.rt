@@ -2,6 +2,8 @@
 //
 // Copyright 2016 Pierre-Étienne Meunier, licensed under the Apache License, Version 2.0 (NOTICE); changed: rewritten for
 // lent slices and tables of numbers.
+#![tactic(auto)]
+
 ghost use Rattle.std.specs.Prelude.{◌≡◌, length};
 ghost use Rattle.names.specs.Tables.{names_of, first_row};
 ghost use Rattle.names.specs.Spelled.{flag, needs_mac, built_in_integrity};
@@ -27,23 +29,23 @@ pub const FIRST_MAC: u8 = 38;
 pub const FIRST_COMPRESSION: u8 = 43;
 
 // "Each kind of number has a type of its own, so a MAC number can't be used as a cipher number."
-#[derive(Drop)]
+#[derive(Clone, Copy)]
 pub struct KexId(pub u8);
 
-#[derive(Drop)]
+#[derive(Clone, Copy)]
 pub struct KeyId(pub u8);
 
-#[derive(Drop)]
+#[derive(Clone, Copy)]
 pub struct CipherId(pub u8);
 
-#[derive(Drop)]
+#[derive(Clone, Copy)]
 pub struct MacId(pub u8);
 
-#[derive(Drop)]
+#[derive(Clone, Copy)]
 pub struct CompressionId(pub u8);
 
 // Whose table a number counts in. A certificate's number is its key's.
-#[derive(Drop)]
+#[derive(Clone, Copy)]
 pub enum Kind {
     Kex,
     Key,
@@ -54,21 +56,21 @@ pub enum Kind {
 }
 
 // A name's number, or that the kind has no such name.
-#[derive(Drop)]
+#[derive(Clone, Copy)]
 pub enum Found {
     Number(u8),
     Unknown,
 }
 
 // A name's row, or that no row spells it.
-#[derive(Drop)]
+#[derive(Clone, Copy)]
 pub enum Row {
     At(usize),
     Nowhere,
 }
 
 // What a column of the table says, or the number of the refusal.
-#[derive(Drop)]
+#[derive(Clone, Copy)]
 pub enum Flag {
     Is(bool),
     Refused(u8),

@@ -3,7 +3,7 @@
 use mathlib.Core.Path.{◌≡◌, refl}
 use mathlib.Core.Bool.{Bool, true}
 use mathlib.Core.List.{List, [], ◌∷◌, ◌++◌, append_assoc, map-append}
-use Prim.Native.Nat.{ℕ, zero, suc, ◌+◌, ◌-◌, ◌*◌, ◌≤◌, ◌<◌}
+use Prim.Native.Nat.{ℕ, suc, ◌+◌, ◌-◌, ◌*◌, ◌≤◌, ◌<◌}
 use native.Mathlib.Nat.{suc-mul, mul-le-mul_right}
 use native.Mathlib.Omega.{arith}
 use lib.Dec.{ltb, leb, lit≤}
@@ -29,7 +29,7 @@ use Rattle.choice.specs.declared.Side.TheVariants.{Client, Server}
 use Rattle.choice.specs.Rows.{row_spelled, spelled_rows}
 use Rattle.judging.specs.Tables.{Tables, most_entries, below, good_list, valid}
 use Rattle.filters.specs.Made.{most_own}
-use Rattle.filters.specs.Picked.{without, held, certificates}
+use Rattle.filters.specs.Picked.{held, certificates}
 use Rattle.preferred.specs.Own.{rows, extensions, other, keys_of, key_of, written_kex, key_list_rows}
 use Rattle.judging.proofs.ValidLaws.{good_below, valid_parts}
 use Rattle.preferred.proofs.OwnLaws.{rows_short, good_without, good_held, good_certificates}

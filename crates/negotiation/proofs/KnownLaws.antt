@@ -1,13 +1,13 @@
 -- Every number of an accepted record lies in its table and stands in the own list, whatever bytes were read: what is chosen
 -- is one of the own rows. Assumes nothing.
-use mathlib.Core.Path.{◌≡◌, refl, sym, ap, ◌∙◌}
-use mathlib.Core.Bool.{Bool, true, false, not, ◌&&◌, ◌||◌, or-true}
+use mathlib.Core.Path.{◌≡◌, refl, ap, ◌∙◌}
+use mathlib.Core.Bool.{Bool, true, false, not, ◌&&◌, or-true}
 use mathlib.Core.List.{List, [], ◌∷◌, ◌++◌}
 use mathlib.Core.Logic.{◌⊎◌, inl, inr, ⊎_elim}
 use mathlib.Core.Option.{Option, some, none}
 use Prim.Native.Nat.{ℕ, ◌+◌, ◌-◌, ◌≤◌, ◌<◌}
 use native.Mathlib.Omega.{arith}
-use borrow.Author.Tests.{leb-true, ltb-true, le-leb, lt-leb, eqb-true, eq-eqb, leb-false, not-true}
+use borrow.Author.Tests.{leb-true, ltb-true, eqb-true, eq-eqb, leb-false, not-true}
 use lib.Dec.{leb, ltb, eqb}
 use lib.ListN.{length, get_or}
 use Rattle.answer.specs.Answer.{Out, refused, done, guard, pick, ◌>>=◌}

@@ -1,18 +1,16 @@
 -- From rows to names: what a row of the name table says as a number, a flag and a rule. Each fact is computed at every row
 -- of its kind. Assumes nothing.
-use mathlib.Core.Path.{◌≡◌, refl, sym, ap, ◌∙◌}
-use mathlib.Core.Bool.{Bool, true, false, not, ◌&&◌, ◌||◌, beq}
-use mathlib.Core.List.{List, [], ◌∷◌, ◌++◌, map}
-use Prim.Native.Nat.{ℕ, zero, suc, ◌+◌, ◌-◌, ◌≤◌, ◌<◌}
-use native.Mathlib.Omega.{arith}
+use mathlib.Core.Path.{◌≡◌, refl, sym}
+use mathlib.Core.Bool.{Bool, true, false, beq}
+use Prim.Native.Nat.{ℕ, ◌-◌, ◌≤◌, ◌<◌}
 use borrow.Author.Tests.{eqb-true}
-use lib.Dec.{leb, ltb, eqb}
+use lib.Dec.{eqb}
 use Rattle.answer.specs.Answer.{pick}
 use Rattle.text.specs.Same.{same}
 use Rattle.text.proofs.TableLaws.{span}
 use Rattle.names.specs.Tables.{first_row, names_of, all_names, kex_names, key_names, certificate_names, cipher_names, mac_names, compression_names}
 use Rattle.names.specs.Lookup.{place_from, number_of}
-use Rattle.names.specs.declared.Kind.TheVariants.{Kex, Key, Certificate, Cipher, Mac, Compression}
+use Rattle.names.specs.declared.Kind.TheVariants.{Kex, Key, Cipher, Mac, Compression}
 use Rattle.choice.specs.Rows.{row_spelled}
 use Rattle.picking.specs.Picking.{none_row, mac_rule}
 use Rattle.picking.specs.declared.Rule.TheVariants.{Protected, Optional}

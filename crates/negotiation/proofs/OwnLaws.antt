@@ -1,29 +1,26 @@
 -- Laws of the entry point: what it refuses before it reads, and the own lists that it hands to the stages. Assumes nothing.
-use mathlib.Core.Path.{◌≡◌, refl, sym, ap, ◌∙◌}
-use mathlib.Core.Bool.{Bool, true, false}
-use mathlib.Core.List.{List, [], ◌∷◌, ◌++◌}
-use Prim.Native.Nat.{ℕ, ◌+◌, ◌-◌, ◌≤◌, ◌<◌}
+use mathlib.Core.Path.{◌≡◌, sym, ap, ◌∙◌}
+use mathlib.Core.Bool.{Bool, true}
+use mathlib.Core.List.{List}
+use Prim.Native.Nat.{ℕ, ◌-◌, ◌≤◌, ◌<◌}
 use native.Mathlib.Omega.{arith}
 use borrow.Author.Tests.{le-leb, lt-leb}
-use lib.Dec.{leb}
 use lib.ListN.{length, take, replicate, length-append}
 use lib.Seq.{length-take-le}
-use Rattle.answer.specs.Answer.{Out, refused, done, ◌>>=◌}
+use Rattle.answer.specs.Answer.{Out, refused, ◌>>=◌}
 use Rattle.answer.specs.declared.Refusal.{Refusal}
 use Rattle.answer.proofs.Laws.{No, split}
 use Rattle.wire.specs.Fields.{At, here}
-use Rattle.names.specs.declared.Kind.TheVariants.{Kex, Key, Certificate, Cipher, Mac, Compression}
+use Rattle.names.specs.declared.Kind.TheVariants.{Cipher, Mac, Compression}
 use Rattle.choice.specs.declared.Side.{Side}
 use Rattle.choice.specs.Rows.{spells_name}
 use Rattle.choice.proofs.ChoiceLaws.{table_spells, table_spells_lem}
-use Rattle.filters.specs.declared.RowList.{RowList}
 use Rattle.preferred.specs.declared.Own.{Own}
 use Rattle.judging.specs.Tables.{Tables, valid}
 use Rattle.filters.specs.Picked.{member}
 use Rattle.filters.specs.Made.{row_list, most_own}
-use Rattle.preferred.specs.Own.{rows, chosen_kex, key_list_rows, strict_name, other, own_of, lists_of, no_own}
-use Rattle.preferred.proofs.HandedLaws.{handed_rows, own_lists, own_nothing, number_valid}
-use Rattle.stages.specs.declared.Rows.{Rows}
+use Rattle.preferred.specs.Own.{rows, chosen_kex, key_list_rows, strict_name, other, own_of, lists_of}
+use Rattle.preferred.proofs.HandedLaws.{handed_rows, own_lists, number_valid}
 use Rattle.stages.specs.Stages.{read_rows}
 use Rattle.negotiation.specs.declared.Names.{Names}
 use Rattle.negotiation.specs.Read.{most_kex_init, read_kex}

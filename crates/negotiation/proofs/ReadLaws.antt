@@ -1,29 +1,28 @@
 -- The stages of the code, one after the other, are `read_kex`. Assumes nothing.
-use mathlib.Core.Path.{◌≡◌, refl, sym, ap, ◌∙◌}
-use mathlib.Core.Bool.{Bool, true, false, not, ◌&&◌, ◌||◌}
-use mathlib.Core.List.{List, [], ◌∷◌}
-use Prim.Native.Nat.{ℕ, ◌+◌, ◌-◌, ◌≤◌, ◌<◌}
-use native.Mathlib.Omega.{arith}
-use borrow.Author.Tests.{le-leb, lt-leb}
-use lib.Dec.{leb, ltb, eqb, lit≤, lit<}
+use mathlib.Core.Path.{◌≡◌, refl, sym, ◌∙◌}
+use mathlib.Core.Bool.{Bool, true, not, ◌&&◌, ◌||◌}
+use mathlib.Core.List.{List}
+use Prim.Native.Nat.{ℕ, ◌≤◌, ◌<◌}
+use borrow.Author.Tests.{le-leb}
+use lib.Dec.{eqb, lit≤}
 use lib.ListN.{length}
-use Rattle.answer.specs.Answer.{Out, refused, done, refuse, pick, guard, ◌>>=◌}
+use Rattle.answer.specs.Answer.{Out, done, ◌>>=◌}
 use Rattle.answer.proofs.WalkLaws.{on}
-use Rattle.wire.specs.Fields.{At, Run, here, byte, word, run, string, end}
+use Rattle.wire.specs.Fields.{At, Run, here, byte, word, string, end}
 use Rattle.commas.specs.Cut.{cut}
 use Rattle.namelist.specs.Judged.{name_list}
 use Rattle.namelist.proofs.JudgeLaws.{list_run}
 use Rattle.names.specs.Tables.{first_row}
-use Rattle.names.specs.declared.Kind.TheVariants.{Kex, Key, Certificate, Cipher, Mac, Compression}
+use Rattle.names.specs.declared.Kind.TheVariants.{Key, Cipher, Mac, Compression}
 use Rattle.choice.specs.declared.Side.{Side}
 use Rattle.choice.specs.declared.Side.TheVariants.{Client, Server}
-use Rattle.choice.specs.Choice.{chosen, both_first, listed}
-use Rattle.choice.specs.Rows.{spells_name, row_spelled, spelled_rows, offered}
+use Rattle.choice.specs.Choice.{chosen, both_first}
+use Rattle.choice.specs.Rows.{spells_name, row_spelled, spelled_rows}
 use Rattle.choice.proofs.ChoiceLaws.{in_table, offered_listed}
 use Rattle.judging.specs.Tables.{Tables, valid}
 use Rattle.filters.specs.Picked.{member}
 use Rattle.preferred.specs.Own.{rows, chosen_kex, key_list_rows, strict_name, other}
-use Rattle.preferred.proofs.RangeLaws.{within, chosen_within, keys_within, ciphers_within, macs_within, compressions_within}
+use Rattle.preferred.proofs.RangeLaws.{chosen_within, keys_within, ciphers_within, macs_within, compressions_within}
 use Rattle.negotiation.specs.declared.Names.{Names}
 use Rattle.stages.specs.declared.Rows.{Rows}
 use Rattle.negotiation.specs.Written.{key_list, cipher_list, mac_list, compression_list}

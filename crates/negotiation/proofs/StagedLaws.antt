@@ -1,28 +1,26 @@
 -- One list and its choice: what the code reads by rows is what the definition reads by names. Assumes nothing.
-use mathlib.Core.Path.{◌≡◌, refl, sym, ap, ◌∙◌}
-use mathlib.Core.Bool.{Bool, true, false, not, ◌&&◌, ◌||◌}
-use mathlib.Core.List.{List, [], ◌∷◌, ◌++◌, map}
+use mathlib.Core.Path.{◌≡◌, refl, ◌∙◌}
+use mathlib.Core.Bool.{Bool, true, false, ◌&&◌}
+use mathlib.Core.List.{List}
 use mathlib.Core.Option
 use mathlib.Core.Option.{Option, some, none}
-use Prim.Native.Nat.{ℕ, ◌+◌, ◌-◌, ◌≤◌, ◌<◌}
+use Prim.Native.Nat.{ℕ, ◌-◌, ◌≤◌, ◌<◌}
 use native.Mathlib.Omega.{arith}
 use borrow.Author.Tests.{leb-true, ltb-true, lt-ltb}
 use lib.Dec.{leb, ltb, eqb, lit≤, lit<}
-use lib.ListN.{length}
-use Rattle.answer.specs.Answer.{Out, refused, done, refuse, pick, ◌>>=◌}
+use Rattle.answer.specs.Answer.{Out, refused, done, pick, ◌>>=◌}
 use Rattle.answer.specs.declared.Refusal.{Refusal}
 use Rattle.answer.proofs.Laws.{split, and_left, and_right}
-use Rattle.text.specs.Same.{same}
-use Rattle.wire.specs.Fields.{At, Run, run}
+use Rattle.wire.specs.Fields.{At, Run}
 use Rattle.commas.specs.Cut.{cut, every}
 use Rattle.namelist.specs.Judged.{name_list}
 use Rattle.commas.proofs.CutLaws.{every_so}
 use Rattle.names.specs.Tables.{first_row}
 use Rattle.names.specs.declared.Kind.TheVariants.{Cipher, Mac, Compression}
 use Rattle.choice.specs.declared.Side.{Side}
-use Rattle.choice.specs.Choice.{chosen, both_first, listed}
-use Rattle.choice.specs.Rows.{spells_name, chosen_row, first_both, row_spelled, spelled_rows, offered}
-use Rattle.choice.proofs.ChoiceLaws.{in_table, chosen_among, chosen_named, both_named, offered_listed}
+use Rattle.choice.specs.Choice.{chosen, both_first}
+use Rattle.choice.specs.Rows.{spells_name, chosen_row, first_both, row_spelled, spelled_rows}
+use Rattle.choice.proofs.ChoiceLaws.{in_table, chosen_among, chosen_named, both_named}
 use Rattle.preferred.proofs.RangeLaws.{within}
 use Rattle.stages.specs.declared.Rows.{Rows}
 use Rattle.negotiation.specs.declared.Names.{Names}
@@ -30,7 +28,7 @@ use Rattle.picking.specs.Picking.{none_row, guessed, ruled, picked, picked_from,
 use Rattle.picking.specs.declared.Rule.{Rule}
 use Rattle.picking.specs.declared.Rule.TheVariants.{Needed, Protected, Optional}
 use Rattle.negotiation.specs.KexInit.{offer}
-use Rattle.negotiation.specs.Read.{settle, settle_mac, needs_mac, no_mac}
+use Rattle.negotiation.specs.Read.{settle, settle_mac, needs_mac}
 use Rattle.negotiation.specs.Rows.{recorded, in_names}
 use Rattle.negotiation.proofs.NameLaws.{mac_rule_lem, no_mac_lem, is_no_mac}
 

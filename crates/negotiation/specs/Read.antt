@@ -1,11 +1,11 @@
 -- What a side settles on when it reads a peer's KEXINIT (document 01, "KEXINIT", Reading and Choice): fields and choices
 -- alternate.
-use Rattle.std.specs.Prelude.{Bool, true, false, not, ◌&&◌, ◌||◌, List, [], ◌∷◌, ◌++◌, ℕ, leb, eqb, length, get_or}
+use Rattle.std.specs.Prelude.{Bool, true, false, not, ◌&&◌, ◌||◌, List, ℕ, leb, eqb, length, get_or}
 use Rattle.std.proofs.Math.Option.{Option, some, none}
 use Rattle.answer.specs.Answer.{Out, refused, done, refuse_at, guard, pick, ◌>>=◌}
 use Rattle.text.specs.Same.{same}
 use Rattle.text.specs.Literal.{bytes}
-use Rattle.wire.specs.Fields.{At, Run, here, byte, word, string, end}
+use Rattle.wire.specs.Fields.{here, byte, word, string, end}
 use Rattle.names.specs.Tables.{need_mac, built_in}
 use Rattle.names.specs.Lookup.{number_of}
 use Rattle.names.specs.declared.Kind.{Kind}
@@ -31,7 +31,7 @@ unfoldable pub settle : ℕ → ℕ → Option (List ℕ) → Out (List ℕ)
 settle n i none = refuse_at n i
 settle n i (some name) = done name
 
--- a name's number in its kind; a chosen name always has one, in the own list (`all_Known`, proofs/KnownLaws.antt)
+-- a name's number in its kind; a chosen name always has one, in the own list (`all_known`, proofs/KnownLaws.antt)
 abbrev pub or_zero : Option ℕ → ℕ
 or_zero none = 0
 or_zero (some n) = n

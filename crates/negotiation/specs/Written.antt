@@ -1,7 +1,7 @@
 -- The KEXINIT that a side writes (document 01, "KEXINIT", Writing; RFC 4253 section 7.1).
-use Rattle.std.specs.Prelude.{Bool, true, false, ◌&&◌, List, [], ℕ, eqb, length}
-use Rattle.answer.specs.Answer.{Out, refused, done, guard, ◌>>=◌}
-use Rattle.names.specs.declared.Kind.TheVariants.{Kex, Key, Certificate, Cipher, Mac, Compression}
+use Rattle.std.specs.Prelude.{◌&&◌, List, [], ℕ, eqb, length}
+use Rattle.answer.specs.Answer.{Out, done, guard, ◌>>=◌}
+use Rattle.names.specs.declared.Kind.TheVariants.{Cipher, Mac, Compression}
 use Rattle.choice.specs.Rows.{spelled_rows}
 use Rattle.judging.specs.Tables.{Tables, valid}
 use Rattle.preferred.specs.Own.{rows, written_kex, key_list_rows}

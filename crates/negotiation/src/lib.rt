@@ -2,6 +2,8 @@
 //
 // Copyright 2016 Pierre-Étienne Meunier, licensed under the Apache License, Version 2.0 (NOTICE); changed: rewritten for
 // lent slices and tables of numbers.
+#![tactic(auto)]
+
 mod read;
 mod rows;
 
@@ -9,7 +11,7 @@ use answer::Refusal;
 use names::{CipherId, CompressionId, KexId, KeyId, MacId};
 pub use read::read_kex;
 
-#[derive(Drop)]
+#[derive(Clone, Copy)]
 pub struct Flags {
     pub host_key_is_certificate: bool,
     pub ignore_guessed: bool,
@@ -17,7 +19,7 @@ pub struct Flags {
 }
 
 // What was settled: `Names` of the Rust.
-#[derive(Drop)]
+#[derive(Clone, Copy)]
 pub struct Names {
     pub kex: KexId,
     pub key: KeyId,
@@ -29,7 +31,7 @@ pub struct Names {
     pub flags: Flags,
 }
 
-#[derive(Drop)]
+#[derive(Clone, Copy)]
 pub enum GotNames {
     Settled(Names),
     Refused(Refusal),

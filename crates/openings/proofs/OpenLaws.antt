@@ -1,7 +1,7 @@
 -- An opening by its type. Assumes nothing.
 use mathlib.Core.Path.{◌≡◌}
 use Prim.Native.Nat.{ℕ}
-use Rattle.answer.specs.Answer.{Out, refused}
+use Rattle.answer.specs.Answer.{refused}
 use Rattle.answer.specs.declared.Refusal.{Refusal}
 use Rattle.wire.specs.declared.answers.Place.{Place}
 use Rattle.channels.specs.Open.{got_open}

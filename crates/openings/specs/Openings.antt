@@ -1,13 +1,11 @@
 -- An opening and a confirmation, as structs (crates/shapes/specs/Shapes.antt).
 use Rattle.std.specs.Prelude.{ℕ}
 use Rattle.answer.specs.Answer.{Out, refused, done}
-use Rattle.answer.specs.declared.Refusal.{Refusal}
 use Rattle.wire.specs.declared.answers.Place.{Place}
 use Rattle.layouts.specs.declared.ChannelType.{ChannelType}
 use Rattle.layouts.specs.declared.ChannelType.TheVariants.{Session, X11, DirectTcpip, DirectStreamLocal, ForwardedTcpIp}
 use Rattle.layouts.specs.declared.ChannelType.TheVariants.{ForwardedStreamLocal, AgentForward, Unknown as UnknownType}
 use Rattle.layouts.specs.declared.TcpChannelInfo.{TcpChannelInfo}
-use Rattle.layouts.specs.declared.StreamLocalChannelInfo.{StreamLocalChannelInfo}
 use Rattle.channels.specs.declared.OpenChannelMessage.{OpenChannelMessage}
 use Rattle.replies.specs.declared.ChannelOpenConfirmation.{ChannelOpenConfirmation}
 use Rattle.openings.specs.declared.Open.{Open}

@@ -1,4 +1,6 @@
 // Channel opening as it crosses the border: an opening by its type, and a confirmation.
+#![tactic(auto)]
+
 ghost use Rattle.std.specs.Prelude.{◌≡◌};
 ghost use Rattle.answer.specs.Answer.{refused};
 ghost use Rattle.replies.specs.Answers.{got_confirmation};
@@ -13,7 +15,7 @@ use shapes::{DONE, REFUSED};
 use wire::answers::Place;
 
 #[repr(C)]
-#[derive(Drop)]
+#[derive(Clone, Copy)]
 pub struct Open {
     pub what: u8,
     pub number: u8,
@@ -33,7 +35,7 @@ pub struct Open {
 }
 
 #[repr(C)]
-#[derive(Drop)]
+#[derive(Clone, Copy)]
 pub struct Confirmation {
     pub what: u8,
     pub number: u8,

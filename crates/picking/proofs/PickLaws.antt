@@ -1,12 +1,12 @@
 -- Laws of one list and its choice: one for each answer that the code gives. Assumes nothing.
-use mathlib.Core.Path.{◌≡◌, refl, ap, sym, ◌∙◌}
+use mathlib.Core.Path.{◌≡◌, refl, sym, ◌∙◌}
 use mathlib.Core.Bool.{Bool, true, false, ◌&&◌}
 use mathlib.Core.List.{List, [], ◌∷◌}
 use mathlib.Core.Option.{Option, some, none}
-use Prim.Native.Nat.{ℕ, ◌+◌, ◌-◌, ◌≤◌, ◌<◌}
+use Prim.Native.Nat.{ℕ, ◌-◌, ◌≤◌, ◌<◌}
 use native.Mathlib.Omega.{arith}
 use borrow.Author.Tests.{le-leb, lt-leb, eq-eqb, ne_eqb, ltb-false}
-use lib.Dec.{leb, ltb, eqb}
+use lib.Dec.{ltb}
 use lib.ListN.{length, take, drop, get_or, get_or-eq_default}
 use Rattle.answer.specs.Answer.{Out, refused, done, pick, ◌>>=◌}
 use Rattle.answer.specs.declared.Refusal.{Refusal}
@@ -15,11 +15,11 @@ use Rattle.wire.specs.declared.answers.Cursor.{Cursor}
 use Rattle.wire.specs.declared.answers.Place.{Place}
 use Rattle.wire.specs.declared.answers.GotText.{GotText}
 use Rattle.wire.specs.declared.answers.GotText.TheVariants.{Text, Refused as NoText}
-use Rattle.wire.specs.Fields.{At, Run, here, run}
+use Rattle.wire.specs.Fields.{At, here, run}
 use Rattle.commas.specs.Cut.{cut}
 use Rattle.namelist.specs.Judged.{name_list}
 use Rattle.wire.specs.Shown.{part}
-use Rattle.wire.specs.Answers.{got_text, run_at, why_no_text}
+use Rattle.wire.specs.Answers.{got_text, why_no_text}
 use Rattle.wire.proofs.RunLaws.{Inside, run_inside, text_order, text_within, text_bytes}
 use Rattle.namelist.proofs.JudgeLaws.{list_inside}
 use Rattle.names.specs.declared.Flag.{Flag}
@@ -28,7 +28,7 @@ use Rattle.names.specs.Spelled.{entry, flag, needs_mac}
 use Rattle.names.specs.Tables.{need_mac}
 use Rattle.choice.proofs.ChoiceLaws.{chosen_one}
 use Rattle.choice.specs.declared.Side.{Side}
-use Rattle.choice.specs.declared.Side.TheVariants.{Client, Server}
+use Rattle.choice.specs.declared.Side.TheVariants.{Client}
 use Rattle.choice.specs.declared.Chosen.{Chosen}
 use Rattle.choice.specs.declared.Chosen.TheVariants.{Row as ChosenRow, Nothing}
 use Rattle.choice.specs.Rows.{chose, chosen_row, first_both, offered}
@@ -38,7 +38,7 @@ use Rattle.picking.specs.declared.Picked.{Picked}
 use Rattle.picking.specs.declared.Picked.TheVariants.{Row, Refused as Unpicked}
 use Rattle.picking.specs.declared.rules.Ruling.{Ruling}
 use Rattle.picking.specs.declared.rules.Ruling.TheVariants.{Row as Ruled, Refused as Unruled}
-use Rattle.picking.specs.Picking.{none_row, guessed, ruled, ruling, picked, picked_from, picked_of, picked_at, stands_in, mac_rule, why_unpicked}
+use Rattle.picking.specs.Picking.{none_row, guessed, ruled, ruling, picked, picked_from, picked_of, picked_at, stands_in, mac_rule}
 
 some_none : {r : ℕ} → ◌≡◌ {A = Option ℕ} (some r) none → ⊥
 some_none h = let z : ◌≡◌ {A = ℕ} 0 1 = cc in omega arith

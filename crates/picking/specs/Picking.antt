@@ -1,6 +1,6 @@
 -- One list and the choice from it as the code goes through them, by rows of a table of names. No promise of the layers
 -- above cites this: there it is proved equal to what document 01 says by names (crates/negotiation/proofs/ReadLaws.antt).
-use Rattle.std.specs.Prelude.{Bool, true, false, ◌&&◌, List, ℕ, leb, eqb, get_or}
+use Rattle.std.specs.Prelude.{Bool, false, ◌&&◌, List, ℕ, leb, eqb, get_or}
 use Rattle.std.proofs.Math.Option.{Option, some, none}
 use Rattle.answer.specs.Answer.{Out, refused, done, no_refusal, pick, ◌>>=◌}
 use Rattle.answer.specs.declared.Refusal.{Refusal}

@@ -2,6 +2,8 @@
 //
 // Copyright 2016 Pierre-Étienne Meunier, licensed under the Apache License, Version 2.0 (NOTICE); changed: rewritten for
 // lent slices and tables of numbers.
+#![tactic(auto)]
+
 ghost use Rattle.std.specs.Prelude.{◌≡◌};
 ghost use Rattle.picking.specs.Picking.{why_unpicked};
 
@@ -15,7 +17,7 @@ pub use pick::{pick_name, stands_in};
 pub use rules::mac_rule;
 
 // What a list without a shared name comes to.
-#[derive(Drop)]
+#[derive(Clone, Copy)]
 pub enum Rule {
     Needed,
     Protected,
@@ -23,7 +25,7 @@ pub enum Rule {
 }
 
 // The row that was chosen, whether it is both first, and the next cursor.
-#[derive(Drop)]
+#[derive(Clone, Copy)]
 pub enum Picked {
     Row(u8, bool, Cursor),
     Refused(Refusal),

@@ -13,7 +13,7 @@ use choice::Chosen;
 use names::{CipherId, FIRST_MAC, Flag};
 
 // A row under a rule, or the refusal.
-#[derive(Drop)]
+#[derive(Clone, Copy)]
 pub enum Ruling {
     Row(u8),
     Refused(Refusal),

@@ -1,7 +1,7 @@
 -- The extension names: what they spell, and how the kex list that is written differs from the one that is chosen from.
 -- Assumes nothing.
 use mathlib.Core.Path.{◌≡◌, refl, sym, ap, ◌∙◌}
-use mathlib.Core.Bool.{Bool, not, ◌||◌, or_comm}
+use mathlib.Core.Bool.{◌||◌, or_comm}
 use mathlib.Core.List.{List, [], ◌∷◌, ◌++◌, map}
 use Prim.Native.Nat.{ℕ}
 use lib.ListN.{get_or}
@@ -13,7 +13,7 @@ use Rattle.choice.specs.declared.Side.TheVariants.{Client, Server}
 use Rattle.judging.specs.Tables.{Tables}
 use Rattle.choice.specs.Choice.{kept}
 use Rattle.filters.specs.Picked.{member, without}
-use Rattle.preferred.specs.Own.{rows, extensions, strict_name, other, written_kex, chosen_kex}
+use Rattle.preferred.specs.Own.{extensions, strict_name, other, written_kex, chosen_kex}
 use Rattle.filters.proofs.RoomLaws.{member_append}
 use Rattle.preferred.proofs.OwnLaws.{kex_rows_lem}
 

@@ -1,11 +1,10 @@
 -- What a caller reads off the lists that are handed over. Assumes nothing.
-use mathlib.Core.Path.{◌≡◌, refl, sym, ap, ◌∙◌}
-use mathlib.Core.Bool.{Bool, true, false}
-use mathlib.Core.List.{List, [], ◌++◌}
+use mathlib.Core.Path.{◌≡◌, ◌∙◌}
+use mathlib.Core.Bool.{true, false}
+use mathlib.Core.List.{List}
 use Prim.Native.Nat.{ℕ, ◌-◌, ◌≤◌}
 use native.Mathlib.Omega.{arith}
 use lib.ListN.{length, take, replicate, length-append, length-replicate}
-use Rattle.answer.specs.Answer.{pick}
 use Rattle.answer.proofs.Laws.{split}
 use Rattle.judging.specs.Tables.{Tables, valid}
 use Rattle.filters.specs.Made.{most_own, row_list}

@@ -1,19 +1,18 @@
 -- What holds of the own lists of valid tables: how long they are, and between which rows of the name table theirs lie.
 -- Assumes nothing.
-use mathlib.Core.Path.{◌≡◌, refl, sym, ap, ◌∙◌}
-use mathlib.Core.Bool.{Bool, true, false, not, ◌&&◌, ◌||◌}
+use mathlib.Core.Path.{◌≡◌, refl}
+use mathlib.Core.Bool.{Bool, true, false, ◌&&◌}
 use mathlib.Core.List.{List, [], ◌∷◌, ◌++◌, map}
 use Prim.Native.Nat.{ℕ, zero, suc, ◌+◌, ◌≤◌, ◌<◌}
 use native.Mathlib.Omega.{arith}
-use native.Mathlib.Nat.{zero-add}
-use borrow.Author.Tests.{ltb-true, leb-true, lt-ltb, le-leb, eqb-false, not-true}
+use borrow.Author.Tests.{ltb-true, leb-true, lt-ltb, le-leb, eqb-false}
 use lib.Dec.{leb, ltb, eqb, lit≤}
 use lib.ListN.{length, get_or, length-append}
 use Rattle.answer.proofs.Laws.{split, and_left, and_right}
 use Rattle.commas.specs.Cut.{every}
 use Rattle.names.specs.declared.Kind.{Kind}
 use Rattle.names.specs.declared.Kind.TheVariants.{Kex, Key, Certificate, Cipher, Mac, Compression}
-use Rattle.names.specs.Tables.{names_of, all_names, first_row}
+use Rattle.names.specs.Tables.{all_names, first_row}
 use Rattle.names.proofs.TableLaws.{count_of, count_kind, row_count}
 use Rattle.choice.specs.declared.Side.{Side}
 use Rattle.choice.specs.declared.Side.TheVariants.{Client, Server}
@@ -22,8 +21,8 @@ use Rattle.choice.specs.Choice.{kept}
 use Rattle.filters.specs.Made.{most_own}
 use Rattle.filters.specs.Picked.{member, without, held, certificates}
 use Rattle.preferred.specs.Own.{rows, extensions, other, written_kex, chosen_kex, keys_of, key_list_rows}
-use Rattle.judging.proofs.ValidLaws.{good_short, good_below, valid_parts}
-use Rattle.preferred.proofs.OwnLaws.{good_without, good_held, good_certificates, kex_rows_lem, rows_short}
+use Rattle.judging.proofs.ValidLaws.{good_below, valid_parts}
+use Rattle.preferred.proofs.OwnLaws.{good_without, good_held, good_certificates, rows_short}
 
 -- every row of these is at least `from` and below `to`
 unfoldable pub within : ℕ → ℕ → List ℕ → Bool
@@ -65,7 +64,7 @@ table_rows_lem from to [] b h = refl
 table_rows_lem from to (r ∷ rs) b h =
     let c = and_left (leb from r && ltb r to) (within from to rs) h in
     let e = ltb-true r to (and_right (leb from r) (ltb r to) c) in
-    rw (row_count, lt-ltb r (end_row Compression) (omega arith)) (rw row_count at (table_rows_lem from to rs b (and_right (leb from r && ltb r to) (within from to rs) h)))
+    rw (lt-ltb r (length all_names) (omega (arith, row_count))) (table_rows_lem from to rs b (and_right (leb from r && ltb r to) (within from to rs) h))
 
 -- what stands at each place of such a list
 pub within_at : (from to : ℕ) (rs : List ℕ) → within from to rs ≡ true → (i : ℕ) → i < length rs → (from ≤ get_or rs i 0) × (get_or rs i 0 < to)

@@ -3,6 +3,7 @@
 //
 // Copyright 2016 Pierre-Étienne Meunier, licensed under the Apache License, Version 2.0 (NOTICE); changed: rewritten for
 // lent slices and tables of numbers.
+#![tactic(auto)]
 
 pub mod defaults;
 mod make;
@@ -13,7 +14,7 @@ pub use make::own_lists;
 
 // A side's own lists, made of tables that were judged: `number` is 0, or 9 and every list is empty. (An enum that holds
 // an array is not covered, so the number stands beside the lists.)
-#[derive(Drop)]
+#[derive(Clone, Copy)]
 pub struct Own {
     pub number: u8,
     pub kex_written: RowList,

@@ -7,7 +7,7 @@ use native.Mathlib.Nat.{add-zero, add_assoc}
 use native.Mathlib.Omega.{arith}
 use lib.ListN.{length, length-append}
 use lib.Seq.{sets, length-sets}
-use Rattle.answer.specs.Answer.{Out, refused, done}
+use Rattle.answer.specs.Answer.{Out, done}
 use Rattle.put.specs.Written.{written, buffer}
 use Rattle.put.proofs.PutLaws.{written_fits, buffer_fits, sets_append}
 use Rattle.put.proofs.WriterLaws.{Puts}

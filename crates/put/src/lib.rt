@@ -1,4 +1,6 @@
 // Bytes out: each put writes all at a position of a lent buffer, or refuses and changes nothing.
+#![tactic(auto)]
+
 ghost use Rattle.std.specs.Prelude.{[], ◌∷◌, ◌≡◌, ◌+◌, ◌≤◌, ltb, length};
 ghost use Rattle.std.proofs.lemmas.List.Edits.{sets};
 ghost use Rattle.answer.specs.Answer.{done};
@@ -11,7 +13,7 @@ use answer::{NO_ROOM, TOO_LONG};
 const LONGEST: usize = 4294967295;
 
 // Where the next byte goes, or the number of the refusal: a writer is no reader, and refuses nowhere.
-#[derive(Drop)]
+#[derive(Clone, Copy)]
 pub enum Put {
     Next(usize),
     Refused(u8),

@@ -1,5 +1,7 @@
 // What an opening is answered with (RFC 4254 section 5.1): `ChannelOpenConfirmation`, `fail` and `unknown_type` of
 // src/parsing.rs of russh; and the fields that an opening and a confirmation share.
+#![tactic(auto)]
+
 use answer::Refusal;
 
 mod confirmation;
@@ -8,7 +10,7 @@ pub mod offer;
 
 pub use failure::{fail, unknown_type};
 
-#[derive(Drop)]
+#[derive(Clone, Copy)]
 pub struct ChannelOpenConfirmation {
     pub recipient_channel: u32,
     pub sender_channel: u32,
@@ -16,7 +18,7 @@ pub struct ChannelOpenConfirmation {
     pub maximum_packet_size: u32,
 }
 
-#[derive(Drop)]
+#[derive(Clone, Copy)]
 pub enum GotConfirmation {
     Confirmed(ChannelOpenConfirmation),
     Refused(Refusal),

@@ -11,14 +11,14 @@ use wire::answers::{Cursor, GotWord};
 pub const MOST_BODY: usize = 262175;
 
 // What the sender of either message grants.
-#[derive(Drop)]
+#[derive(Clone, Copy)]
 pub struct Offer {
     pub sender_channel: u32,
     pub initial_window_size: u32,
     pub maximum_packet_size: u32,
 }
 
-#[derive(Drop)]
+#[derive(Clone, Copy)]
 pub enum GotOffer {
     Offered(Offer, Cursor),
     Refused(Refusal),

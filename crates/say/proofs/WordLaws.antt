@@ -1,13 +1,12 @@
 -- Three puts in a row are an item; two or more items in a row are one run. Assumes nothing.
 use mathlib.Core.Path.{◌≡◌}
-use mathlib.Core.Bool.{Bool, true, false}
-use mathlib.Core.List.{List, [], ◌∷◌}
+use mathlib.Core.List.{List}
 use Prim.Native.Nat.{ℕ}
 use Rattle.answer.specs.Answer.{Out, done}
 use Rattle.put.proofs.WriterLaws.{Puts}
 use Rattle.put.specs.Runs.{next_or}
 use Rattle.put.proofs.RunLaws.{Ran, run_last, run_more}
-use Rattle.say.specs.Words.{item, flag_item, yes_or_no}
+use Rattle.say.specs.Words.{item}
 
 module _ (out out₁ out₂ out₃ : List ℕ) (at p p₁ p₂ : ℕ) (before label : List ℕ) (value : Out (List ℕ)) (q q₁ q₂ : Out ℕ)
     (first : Puts out at (done before) q out₁) (next : p ≡ next_or q at)

@@ -1,4 +1,6 @@
 // What was settled, in words and in numbers: for programs to write out, and to compare.
+#![tactic(auto)]
+
 ghost use Rattle.std.specs.Prelude.{◌≡◌};
 ghost use Rattle.names.specs.Spelled.{spelled};
 ghost use Rattle.put.specs.Runs.{ended, filled};

@@ -1,6 +1,6 @@
 -- What is made of the names of an answer is made of the answer. Assumes nothing.
 use mathlib.Core.Path.{◌≡◌}
-use Rattle.answer.specs.Answer.{Out, done}
+use Rattle.answer.specs.Answer.{done}
 use Rattle.negotiation.specs.declared.Names.{Names}
 use Rattle.negotiation.specs.declared.GotNames.{GotNames}
 use Rattle.negotiation.specs.declared.GotNames.TheVariants.{Settled as Accepted}

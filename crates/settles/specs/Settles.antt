@@ -1,7 +1,6 @@
 -- What a side settles on, as a struct (crates/shapes/specs/Shapes.antt), and a side, which crosses as a flag.
-use Rattle.std.specs.Prelude.{Bool, true, false, ℕ}
+use Rattle.std.specs.Prelude.{Bool, true, false}
 use Rattle.answer.specs.Answer.{Out, refused, done}
-use Rattle.answer.specs.declared.Refusal.{Refusal}
 use Rattle.choice.specs.declared.Side.{Side}
 use Rattle.choice.specs.declared.Side.TheVariants.{Client, Server}
 use Rattle.negotiation.specs.declared.Names.{Names}

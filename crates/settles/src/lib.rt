@@ -1,4 +1,6 @@
 // What a side settles on as it crosses the border, and the side by its flag.
+#![tactic(auto)]
+
 ghost use Rattle.std.specs.Prelude.{◌≡◌};
 ghost use Rattle.negotiation.specs.Read.{got_names};
 ghost use Rattle.settles.specs.Settles.{settled_of, side_of};
@@ -8,7 +10,7 @@ use negotiation::GotNames;
 use shapes::{DONE, REFUSED};
 
 #[repr(C)]
-#[derive(Drop)]
+#[derive(Clone, Copy)]
 pub struct Settled {
     pub what: u8,
     pub number: u8,

@@ -1,12 +1,12 @@
 -- A place that was judged: a number 0 beside a part says that it lies inside. Assumes nothing.
-use mathlib.Core.Bool.{Bool, true, false}
+use mathlib.Core.Bool.{true, false}
 use mathlib.Core.List.{List}
 use mathlib.Core.Path.{◌≡◌}
 use Prim.Native.Nat.{ℕ, ◌+◌}
 use native.Mathlib.Omega.{arith}
 use lib.Dec.{leb}
 use lib.ListN.{length}
-use Rattle.answer.specs.Answer.{Out, refused, done, ◌>>=◌}
+use Rattle.answer.specs.Answer.{◌>>=◌}
 use Rattle.answer.proofs.Laws.{split}
 use Rattle.wire.specs.declared.answers.Place.{Place}
 use Rattle.wire.specs.Shown.{shown, refusal_of}

@@ -1,5 +1,7 @@
 // The structs that cross the border, as include/harupesat.h has them: here what each of them says first, and the two that
 // belong to no message. A place is judged here, since a part of a slice cannot cross.
+#![tactic(auto)]
+
 ghost use Rattle.std.specs.Prelude.{◌≡◌};
 ghost use Rattle.put.specs.Written.{put};
 ghost use Rattle.wire.specs.Shown.{shown};
@@ -19,7 +21,7 @@ pub const UNKNOWN: u8 = 3;
 
 // What a writer answers: `len` bytes stand at the front of the lent output.
 #[repr(C)]
-#[derive(Drop)]
+#[derive(Clone, Copy)]
 pub struct Written {
     pub what: u8,
     pub number: u8,
@@ -27,7 +29,7 @@ pub struct Written {
 }
 
 #[repr(C)]
-#[derive(Drop)]
+#[derive(Clone, Copy)]
 pub struct Shown {
     pub what: u8,
     pub number: u8,

@@ -3,6 +3,8 @@
 //
 // Copyright 2016 Pierre-Étienne Meunier, licensed under the Apache License, Version 2.0 (NOTICE); changed: rewritten for
 // lent slices and tables of numbers.
+#![tactic(auto)]
+
 ghost use Rattle.std.specs.Prelude.{◌≡◌, ◌-◌};
 
 use answer::Refusal;
@@ -19,7 +21,7 @@ pub fn number(row: u8, first: u8) -> u8
 }
 
 // The rows that were chosen so far, and the flags. `guessed`: kex and key are both first.
-#[derive(Drop)]
+#[derive(Clone, Copy)]
 pub struct Rows {
     pub kex: u8,
     pub key: u8,
@@ -33,7 +35,7 @@ pub struct Rows {
 }
 
 // The rows, and whether a guessed packet follows.
-#[derive(Drop)]
+#[derive(Clone, Copy)]
 pub enum GotRows {
     Chosen(Rows, bool),
     Refused(Refusal),

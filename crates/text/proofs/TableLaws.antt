@@ -8,6 +8,7 @@ use native.Mathlib.Omega.{arith}
 
 -- what maps a list alike is alike at each of its entries
 pub alike : {X Y : Type 0} (f g : X → Y) (l : List X) {x : X} → map f l ≡ map g l → Memᴰ x l → f x ≡ g x
+alike {X = X} {Y = Y} f g [] e x4 = elim x4 [ ]
 alike f g (y ∷ l) e (Memᴰ.head p) = rw p (cc)
 alike f g (y ∷ l) e (Memᴰ.tail m) = alike f g l (cc) m
 

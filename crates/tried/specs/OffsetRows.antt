@@ -3,7 +3,6 @@
 use Rattle.std.specs.Prelude.{false, List, [], ◌∷◌, ◌++◌, ℕ, take, replicate}
 use Prim.Native.String.{String}
 use Rattle.text.specs.Literal.{bytes}
-use Rattle.judging.specs.Tables.{Tables}
 use Rattle.negotiation.specs.Read.{read_kex}
 use Rattle.tried.specs.Row.{Row, row}
 use Rattle.tried.specs.Trials.{refuses_at, gives, answered, server, cookie}

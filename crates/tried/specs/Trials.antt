@@ -1,8 +1,7 @@
 -- How each tried input of document 01 is put to the definitions, and what is looked at in the answer.
 use Rattle.std.specs.Prelude.{Bool, true, false, List, [], ◌∷◌, ℕ, length, get_or, replicate}
-use Rattle.answer.specs.Answer.{Out, refused, done, pick}
+use Rattle.answer.specs.Answer.{Out, refused, done}
 use Rattle.choice.specs.declared.Side.TheVariants.{Client, Server}
-use Rattle.framing.specs.declared.Counters.{Counters}
 use Rattle.framing.specs.Clear.{Read, need, packet, packet_of, read_packet}
 use Rattle.layouts.specs.declared.ChannelType.{ChannelType}
 use Rattle.layouts.specs.declared.ChannelType.TheVariants.{Session, X11, DirectTcpip, DirectStreamLocal, ForwardedTcpIp, ForwardedStreamLocal, AgentForward, Unknown}

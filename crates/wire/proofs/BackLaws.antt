@@ -1,18 +1,16 @@
 -- What is written reads back, with any bytes after it, wherever the reader is. Assumes nothing.
-use mathlib.Core.Path.{◌≡◌, refl, ap, sym, ◌∙◌}
-use mathlib.Core.Bool.{Bool, true, false, not, ◌&&◌}
+use mathlib.Core.Path.{◌≡◌, refl}
+use mathlib.Core.Bool.{true}
 use mathlib.Core.List.{List, [], ◌∷◌, ◌++◌}
-use Prim.Native.Nat.{ℕ, suc, ◌+◌, ◌*◌, ◌/◌, ◌%◌, ◌≤◌, ◌<◌}
+use Prim.Native.Nat.{ℕ, suc, ◌+◌, ◌/◌, ◌%◌, ◌<◌}
 use native.Mathlib.Omega.{arith}
-use native.Mathlib.Numerals.{add-one}
 use borrow.Author.Tests.{le-leb}
-use lib.Dec.{leb}
-use lib.ListN.{length, take, drop, length-append}
+use lib.ListN.{length, length-append}
 use lib.Seq.{take-append_seam, drop-append_seam}
-use Rattle.answer.specs.Answer.{Out, done, ◌>>=◌}
+use Rattle.answer.specs.Answer.{done, ◌>>=◌}
 use Rattle.put.specs.Written.{word as encoded}
 use Rattle.text.specs.Utf8.{utf8}
-use Rattle.wire.specs.Fields.{At, Run, byte, word, run, string, end, big_endian}
+use Rattle.wire.specs.Fields.{byte, word, run, string, end, big_endian}
 
 module _ (i : ℕ) where
   pub byte_back : (b : ℕ) (r : List ℕ) → byte (record { at = i; left = b ∷ r }) ≡ done (b, record { at = i + 1; left = r })

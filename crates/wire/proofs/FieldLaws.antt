@@ -1,7 +1,7 @@
 -- Laws of the fields: one for each answer that the code gives, in the words of the code's tests. Assumes nothing.
-use mathlib.Core.Path.{◌≡◌, refl, ap, sym, ◌∙◌}
+use mathlib.Core.Path.{◌≡◌, ◌∙◌}
 use mathlib.Core.Bool.{true, false}
-use mathlib.Core.List.{List, [], ◌∷◌}
+use mathlib.Core.List.{List}
 use Prim.Native.Nat.{ℕ, ◌+◌, ◌-◌, ◌≤◌, ◌<◌}
 use native.Mathlib.Omega.{arith}
 use native.Mathlib.Nat.{add-zero}
@@ -9,10 +9,10 @@ use borrow.Author.Tests.{le-leb, lt-leb}
 use lib.Dec.{leb}
 use lib.ListN.{length, get_or, take, drop, length-drop, drop_of_length-le}
 use lib.Seq.{drop-drop, get_or-drop, take_all}
-use Rattle.answer.specs.Answer.{Out, refused, done, ◌>>=◌}
+use Rattle.answer.specs.Answer.{refused, done, ◌>>=◌}
 use Rattle.answer.specs.declared.Refusal.{Refusal}
 use Rattle.answer.proofs.Laws.{NoAt}
-use Rattle.wire.specs.Fields.{At, here, skip, byte, word, run, string, end, big_endian}
+use Rattle.wire.specs.Fields.{At, here, skip, byte, word, end, big_endian}
 
 module _ (s : List ℕ) (i : ℕ) where
   -- enough is left, or not, by what is left of the slice

@@ -1,27 +1,27 @@
 -- Laws of strings: one for each answer that the code gives. Assumes nothing.
-use mathlib.Core.Path.{◌≡◌, refl, ap, sym, ◌∙◌}
+use mathlib.Core.Path.{◌≡◌, ap}
 use mathlib.Core.Bool.{Bool, true, false}
-use mathlib.Core.List.{List, [], ◌∷◌}
+use mathlib.Core.List.{List}
 use Prim.Native.Nat.{ℕ, ◌+◌, ◌-◌, ◌≤◌, ◌<◌}
 use native.Mathlib.Omega.{arith}
 use borrow.Author.Tests.{leb-true}
 use lib.Dec.{leb}
 use lib.ListN.{length, get_or, take, drop, length-drop}
 use lib.Seq.{drop-drop}
-use Rattle.answer.specs.Answer.{Out, refused, done, ◌>>=◌}
+use Rattle.answer.specs.Answer.{refused, done, ◌>>=◌}
 use Rattle.answer.specs.declared.Refusal.{Refusal}
 use Rattle.answer.proofs.Laws.{NoAt, split, un_done, not_both}
 use Rattle.wire.specs.declared.answers.Cursor.{Cursor}
 use Rattle.wire.specs.declared.answers.Place.{Place}
 use Rattle.wire.specs.declared.answers.GotWord.{GotWord}
 use Rattle.wire.specs.declared.answers.GotWord.TheVariants.{Word, Refused as NoWord}
-use Rattle.wire.specs.Fields.{At, Run, here, skip, big_endian, word, run, string}
+use Rattle.wire.specs.Fields.{At, Run, here, big_endian, word, run, string}
 use Rattle.text.specs.Utf8.{utf8}
 use Rattle.wire.specs.declared.answers.GotText.{GotText}
 use Rattle.wire.specs.declared.answers.GotText.TheVariants.{Text, Refused as NoText}
 use Rattle.wire.specs.Shown.{part}
 use Rattle.wire.specs.Answers.{got_word, got_text, run_at, why_no_word}
-use Rattle.wire.proofs.FieldLaws.{long, short, moved}
+use Rattle.wire.proofs.FieldLaws.{long, short}
 
 module _ (s : List ℕ) (i : ℕ) (w : GotWord) (told : got_word s w ≡ word (here s i)) where
   -- a number that was read stands inside the slice

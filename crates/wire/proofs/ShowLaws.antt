@@ -1,12 +1,12 @@
 -- Laws of a shown place. Assumes nothing.
-use mathlib.Core.Path.{◌≡◌, refl, ap}
+use mathlib.Core.Path.{◌≡◌}
 use mathlib.Core.List.{List, []}
 use Prim.Native.Nat.{ℕ, ◌+◌, ◌-◌, ◌≤◌, ◌<◌}
 use native.Mathlib.Omega.{arith}
 use native.Mathlib.Nat.{add-sub_cancel_left}
 use borrow.Author.Tests.{le-leb, lt-leb}
 use lib.ListN.{length, take, drop}
-use Rattle.answer.specs.Answer.{Out, refuse, done, ◌>>=◌}
+use Rattle.answer.specs.Answer.{refuse, done, ◌>>=◌}
 use Rattle.wire.specs.declared.answers.Place.{Place}
 use Rattle.wire.specs.Shown.{part, shown, refusal_of, bytes_of, start_of}
 

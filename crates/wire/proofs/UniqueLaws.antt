@@ -14,9 +14,6 @@ use Rattle.wire.specs.declared.answers.Checked.{Checked}
 use Rattle.wire.specs.declared.answers.Checked.TheVariants.{Fine, Refused as NotFine}
 use Rattle.wire.specs.declared.answers.NextName.{NextName}
 use Rattle.wire.specs.declared.answers.NextName.TheVariants.{Name, NoMore}
-use Rattle.wire.specs.declared.answers.Place.{Place}
-use Rattle.wire.specs.declared.answers.Cursor.{Cursor}
-use Rattle.wire.specs.Fields.{At, Run}
 use Rattle.wire.specs.Walk.{Next, none, name}
 use Rattle.wire.specs.Answers.{got_byte, got_word, got_text, checked, next_of}
 

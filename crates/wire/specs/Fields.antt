@@ -1,7 +1,7 @@
 -- Fields of a message (RFC 4251 section 5), read one after the other. A field is refused where its first byte stands, which
 -- is its length's (document 02, No. 6).
-use Rattle.std.specs.Prelude.{List, [], ◌∷◌, ◌++◌, ℕ, ◌+◌, ◌*◌, leb, length, get_or, take, drop}
-use Rattle.answer.specs.Answer.{Out, refused, done, guard_at, ◌>>=◌}
+use Rattle.std.specs.Prelude.{List, ℕ, ◌+◌, ◌*◌, leb, length, get_or, take, drop}
+use Rattle.answer.specs.Answer.{Out, done, guard_at, ◌>>=◌}
 use Rattle.text.specs.Utf8.{utf8}
 use Rattle.wire.specs.declared.answers.Place.{Place}
 

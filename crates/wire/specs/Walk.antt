@@ -1,5 +1,5 @@
 -- The walk over the names of a list that is lent whole (RFC 4251 section 5).
-use Rattle.std.specs.Prelude.{ℕ, ◌+◌, take, drop}
+use Rattle.std.specs.Prelude.{◌+◌, take, drop}
 use Rattle.answer.specs.Answer.{pick}
 use Rattle.commas.specs.Cut.{empty, name_length}
 use Rattle.wire.specs.Fields.{At, Run, skip}

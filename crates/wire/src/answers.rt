@@ -5,44 +5,44 @@ ghost use Rattle.wire.specs.Answers.{why_no_byte, why_no_word, why_no_text, why_
 use answer::{NOTHING, Refusal, refuse};
 
 // How far a reader is in the slice that was lent.
-#[derive(Drop)]
+#[derive(Clone, Copy)]
 pub struct Cursor {
     pub at: usize,
 }
 
 // Where a run of bytes stands in the slice that was lent.
-#[derive(Drop)]
+#[derive(Clone, Copy)]
 pub struct Place {
     pub start: usize,
     pub len: usize,
 }
 
-#[derive(Drop)]
+#[derive(Clone, Copy)]
 pub enum GotByte {
     Byte(u8, Cursor),
     Refused(Refusal),
 }
 
-#[derive(Drop)]
+#[derive(Clone, Copy)]
 pub enum GotWord {
     Word(u32, Cursor),
     Refused(Refusal),
 }
 
-#[derive(Drop)]
+#[derive(Clone, Copy)]
 pub enum GotText {
     Text(Place, Cursor),
     Refused(Refusal),
 }
 
 // A test of the input that hands nothing back.
-#[derive(Drop)]
+#[derive(Clone, Copy)]
 pub enum Checked {
     Fine,
     Refused(Refusal),
 }
 
-#[derive(Drop)]
+#[derive(Clone, Copy)]
 pub enum NextName {
     Name(Place, Cursor),
     NoMore,

@@ -1,0 +1,17 @@
+use Rattle.choice.proofs.WalkLaws.{peer_laws}
+use Rattle.choice.proofs.peer_first.Goals as goal
+
+pub returns-in_default : goal.returns-in_default
+returns-in_default c = search peer_laws
+
+pub at_place-requires : goal.at_place-requires
+at_place-requires c = search peer_laws
+
+pub returns-then-k-own : goal.returns-then-k-own
+returns-then-k-own c = search peer_laws
+
+pub loop-p-smaller : goal.loop-p-smaller
+loop-p-smaller c = search peer_laws
+
+pub loop-p-preserved : goal.loop-p-preserved
+loop-p-preserved c = search peer_laws

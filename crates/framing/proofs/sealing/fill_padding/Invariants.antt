@@ -1,0 +1,10 @@
+-- The loop: the zeros written so far stand in place. The measure is what is left to write. Assumes nothing.
+use Rattle.std.proofs.Common.{◌≡◌, ◌-◌, ◌≤◌, replicate}
+use lib.Seq.{sets}
+use Rattle.framing.proofs.sealing.fill_padding.Given as goal
+
+abbrev pub invariant-loop-j : goal.invariant-loop-j
+invariant-loop-j l = (l.j ≤ l.n) × (l.out ≡ sets l.initial.out l.at (replicate l.j 0))
+
+abbrev pub decreases-loop-j : goal.decreases-loop-j
+decreases-loop-j l = l.n - l.j

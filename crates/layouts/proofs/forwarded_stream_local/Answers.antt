@@ -1,0 +1,15 @@
+use Rattle.layouts.specs.Types.{forwarded_stream_local}
+use Rattle.layouts.proofs.StepLaws.{steps}
+use Rattle.layouts.proofs.forwarded_stream_local.Goals as goal
+
+pub returns-in_default : goal.returns-in_default
+unfolding forwarded_stream_local
+returns-in_default c = search steps
+
+pub returns-in_default-a : goal.returns-in_default-a
+unfolding forwarded_stream_local
+returns-in_default-a c = search steps
+
+pub returns : goal.returns
+unfolding forwarded_stream_local
+returns c = search steps

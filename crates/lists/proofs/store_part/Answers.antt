@@ -1,0 +1,13 @@
+-- `lists::store_part`: two runs of stores are one. Assumes nothing.
+use Rattle.lists.proofs.StoreLaws.{part_laws, part_whole}
+use Rattle.lists.proofs.store_part.Goals as goal
+
+pub store-p-requires : goal.store-p-requires
+store-p-requires c = search part_laws
+
+pub store-requires : goal.store-requires
+store-requires c = search part_laws
+
+pub returns : goal.returns
+returns c =
+    record { next = (part_whole _ _ _ _ _ c.wide.ensures.0 _ _ _ c.requires c.spelling.ensures _ _ c.store-p.ensures.next c.store-p.ensures.bytes _ _ (c.store.ensures.next, c.store.ensures.bytes)).0; bytes = (part_whole _ _ _ _ _ c.wide.ensures.0 _ _ _ c.requires c.spelling.ensures _ _ c.store-p.ensures.next c.store-p.ensures.bytes _ _ (c.store.ensures.next, c.store.ensures.bytes)).1 }

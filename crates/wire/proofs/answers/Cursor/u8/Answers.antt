@@ -1,0 +1,8 @@
+use Rattle.wire.proofs.FieldLaws.{field_laws}
+use Rattle.wire.proofs.answers.Cursor.u8.Goals as goal
+
+pub returns-then-s-at : goal.returns-then-s-at
+returns-then-s-at c = search field_laws
+
+pub returns : goal.returns
+returns c = search field_laws

@@ -1,6 +1,0 @@
-use borrow.Author.Rules.{rules}
-use Rattle.wire.proofs.answers.GotByte.why.Statement.{statement}
-use Rattle.wire.proofs.answers.GotByte.why.Tie as tie
-
-pub why_spec : {M : Type 1} → statement M
-why_spec = tie.close (tie.spec (λ c. search rules) (λ c κs. search rules) (λ c. search rules) (λ c. cc) (λ c. search rules))
