@@ -9,20 +9,13 @@ pub use frames::{Frame, Sealed};
 use frames::{frame_of, sealed_of};
 use framing::Counters;
 
-#[unsafe(no_mangle)]
-pub extern "C" fn harupesat_frame_read(s: &[u8], seqn: u32, bytes: u64) -> Frame
+pub fn harupesat_frame_read(s: &[u8], seqn: u32, bytes: u64) -> Frame
     ensures { result ≡ frame_of (read_packet s.now (record { seqn = seqn; bytes = bytes })) }
 {
     frame_of(framing::read(s, Counters { seqn, bytes }))
 }
 
-#[unsafe(no_mangle)]
-pub extern "C" fn harupesat_frame_write(
-    payload: &[u8],
-    seqn: u32,
-    bytes: u64,
-    out: &mut [u8],
-) -> Sealed
+pub fn harupesat_frame_write(payload: &[u8], seqn: u32, bytes: u64, out: &mut [u8]) -> Sealed
     ensures answer { result ≡ sealed_of (sealing out.old payload.now (record { seqn = seqn; bytes = bytes })) }
     ensures bytes { out.new ≡ buffer out.old 0 (packet_of payload.now) }
 {

@@ -11,8 +11,7 @@ pub use settles::Settled;
 use settles::{settled_of, side_of};
 use shapes::{Written, written_of};
 
-#[unsafe(no_mangle)]
-pub extern "C" fn harupesat_write_kex(
+pub fn harupesat_write_kex(
     server: bool,
     kex: &[u8],
     key: &[u8],
@@ -75,8 +74,7 @@ pub extern "C" fn harupesat_write_kex(
     ))
 }
 
-#[unsafe(no_mangle)]
-pub extern "C" fn harupesat_read_kex(
+pub fn harupesat_read_kex(
     server: bool,
     kex: &[u8],
     key: &[u8],

@@ -11,37 +11,32 @@ pub use kinds::{Number, Truth};
 use names::CipherId;
 use shapes::{Written, written_of};
 
-#[unsafe(no_mangle)]
-pub extern "C" fn harupesat_spelling(kind: u8, number: u8, out: &mut [u8]) -> Written
+pub fn harupesat_spelling(kind: u8, number: u8, out: &mut [u8]) -> Written
     ensures answer { result ≡ written_of (written out.old 0 (name_of kind number)) }
     ensures bytes { out.new ≡ buffer out.old 0 (name_of kind number) }
 {
     written_of(kinds::spell(kind, number, out))
 }
 
-#[unsafe(no_mangle)]
-pub extern "C" fn harupesat_lookup(kind: u8, name: &[u8]) -> Number
+pub fn harupesat_lookup(kind: u8, name: &[u8]) -> Number
     ensures { result ≡ numbered (named_of kind name.now) }
 {
     kinds::number_of(kind, name)
 }
 
-#[unsafe(no_mangle)]
-pub extern "C" fn harupesat_needs_mac(cipher: u8) -> Truth
+pub fn harupesat_needs_mac(cipher: u8) -> Truth
     ensures { result ≡ truth_of (needs_mac cipher) }
 {
     truth_of(CipherId(cipher).needs_mac())
 }
 
-#[unsafe(no_mangle)]
-pub extern "C" fn harupesat_built_in_integrity(cipher: u8) -> Truth
+pub fn harupesat_built_in_integrity(cipher: u8) -> Truth
     ensures { result ≡ truth_of (built_in_integrity cipher) }
 {
     truth_of(CipherId(cipher).built_in_integrity())
 }
 
-#[unsafe(no_mangle)]
-pub extern "C" fn harupesat_default_list(kind: u8, out: &mut [u8]) -> Written
+pub fn harupesat_default_list(kind: u8, out: &mut [u8]) -> Written
     ensures answer { result ≡ written_of (written out.old 0 (default_list kind)) }
     ensures bytes { out.new ≡ buffer out.old 0 (default_list kind) }
 {

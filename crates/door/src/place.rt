@@ -6,8 +6,7 @@ ghost use Rattle.shapes.specs.Shapes.{shown_of};
 pub use shapes::Shown;
 use wire::answers::Place;
 
-#[unsafe(no_mangle)]
-pub extern "C" fn harupesat_show(s: &[u8], start: usize, len: usize) -> Shown
+pub fn harupesat_show(s: &[u8], start: usize, len: usize) -> Shown
     ensures { result ≡ shown_of (record { start = start; len = len })
         (shown s.now (record { start = start; len = len })) }
 {

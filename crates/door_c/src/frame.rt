@@ -1,0 +1,28 @@
+// Clear packets.
+ghost use Rattle.std.specs.Prelude.{◌≡◌};
+ghost use Rattle.put.specs.Written.{buffer};
+ghost use Rattle.framing.specs.Clear.{read_packet, packet_of};
+ghost use Rattle.framing.specs.Answers.{sealing};
+ghost use Rattle.frames.specs.Frames.{frame_of, sealed_of};
+
+use frames::{Frame, Sealed};
+
+#[unsafe(no_mangle)]
+pub extern "C" fn harupesat_frame_read(s: &[u8], seqn: u32, bytes: u64) -> Frame
+    ensures { result ≡ frame_of (read_packet s.now (record { seqn = seqn; bytes = bytes })) }
+{
+    door::frame::harupesat_frame_read(s, seqn, bytes)
+}
+
+#[unsafe(no_mangle)]
+pub extern "C" fn harupesat_frame_write(
+    payload: &[u8],
+    seqn: u32,
+    bytes: u64,
+    out: &mut [u8],
+) -> Sealed
+    ensures answer { result ≡ sealed_of (sealing out.old payload.now (record { seqn = seqn; bytes = bytes })) }
+    ensures bytes { out.new ≡ buffer out.old 0 (packet_of payload.now) }
+{
+    door::frame::harupesat_frame_write(payload, seqn, bytes, out)
+}
