@@ -1,17 +1,19 @@
 // What is printed: words, numbers, flags as 0 and 1, bytes.
 use door::Written;
+use std::io;
+use std::io::Write;
 use text::front;
 
 // What stands in every lent output before a call.
 pub const MARK: u8 = b'#';
 
-pub fn words(s: &[u8]) {
-    io::write_all(1, s);
+pub fn words(to: &mut impl Write, s: &[u8]) -> io::Result<()> {
+    to.write_all(s)
 }
 
-pub fn value(s: &[u8], n: u64) {
-    io::write_all(1, s);
-    io::print_decimal(1, n);
+pub fn value(to: &mut impl Write, s: &[u8], n: u64) -> io::Result<()> {
+    words(to, s)?;
+    write!(to, "{n}")
 }
 
 fn wide(x: u8) -> u64 {
@@ -22,64 +24,57 @@ fn wide_word(x: u32) -> u64 {
     x as u64
 }
 
-pub fn small(s: &[u8], n: u8) {
-    value(s, wide(n));
+pub fn small(to: &mut impl Write, s: &[u8], n: u8) -> io::Result<()> {
+    value(to, s, wide(n))
 }
 
-pub fn flag(s: &[u8], b: bool) {
-    if b {
-        value(s, 1);
-    } else {
-        value(s, 0);
-    }
+pub fn flag(to: &mut impl Write, s: &[u8], b: bool) -> io::Result<()> {
+    if b { value(to, s, 1) } else { value(to, s, 0) }
 }
 
 // What every answer starts with.
-pub fn answer(what: u8, number: u8) {
-    small(b": what ", what);
-    small(b" number ", number);
+pub fn answer(to: &mut impl Write, what: u8, number: u8) -> io::Result<()> {
+    small(to, b": what ", what)?;
+    small(to, b" number ", number)
 }
 
 // A reader's answer.
-pub fn answer_at(what: u8, number: u8, offset: usize) {
-    answer(what, number);
-    value(b" offset ", offset as u64);
+pub fn answer_at(to: &mut impl Write, what: u8, number: u8, offset: usize) -> io::Result<()> {
+    answer(to, what, number)?;
+    value(to, b" offset ", offset as u64)
 }
 
-fn spaced(n: u64) {
-    value(b" ", n);
+fn spaced(to: &mut impl Write, n: u64) -> io::Result<()> {
+    value(to, b" ", n)
 }
 
 // Numbers in decimal.
-pub fn numbers(s: &[u8], ns: &[u8]) {
-    io::write_all(1, s);
-    let mut i = 0;
-    while i < ns.len() {
-        spaced(wide(ns[i]));
-        i += 1;
+pub fn numbers(to: &mut impl Write, s: &[u8], ns: &[u8]) -> io::Result<()> {
+    words(to, s)?;
+    for n in ns {
+        spaced(to, wide(*n))?;
     }
+    Ok(())
 }
 
-pub fn identities(s: &[u8], ns: &[u32]) {
-    io::write_all(1, s);
-    let mut i = 0;
-    while i < ns.len() {
-        spaced(wide_word(ns[i]));
-        i += 1;
+pub fn identities(to: &mut impl Write, s: &[u8], ns: &[u32]) -> io::Result<()> {
+    words(to, s)?;
+    for n in ns {
+        spaced(to, wide_word(*n))?;
     }
+    Ok(())
 }
 
-fn digits(b: u8) {
-    words(b" ");
-    io::print_hex(1, wide(b), 2);
+fn digits(to: &mut impl Write, b: u8) -> io::Result<()> {
+    words(to, b" ")?;
+    write!(to, "{b:02x}")
 }
 
-pub fn hex(s: &[u8]) {
-    let mut i = 0;
-    while i < s.len() {
-        digits(s[i]);
-        i += 1;
+pub fn hex(to: &mut impl Write, s: &[u8]) -> io::Result<()> {
+    for b in s {
+        digits(to, *b)?;
     }
+    Ok(())
 }
 
 // A byte that stands for itself: a letter, a digit, most signs of a name, the mark.
@@ -90,22 +85,20 @@ fn plain(b: u8) -> bool {
     b >= 44 && b <= 122 && b != 92
 }
 
-fn letter(b: u8) {
+fn letter(to: &mut impl Write, b: u8) -> io::Result<()> {
     if plain(b) {
         let one = [b];
-        io::write_all(1, &one);
-        return;
+        return words(to, &one);
     }
-    words(b"\\");
-    io::print_hex(1, wide(b), 2);
+    words(to, b"\\")?;
+    write!(to, "{b:02x}")
 }
 
-pub fn text(s: &[u8]) {
-    let mut i = 0;
-    while i < s.len() {
-        letter(s[i]);
-        i += 1;
+pub fn text(to: &mut impl Write, s: &[u8]) -> io::Result<()> {
+    for b in s {
+        letter(to, *b)?;
     }
+    Ok(())
 }
 
 // The last n bytes.
@@ -118,23 +111,23 @@ fn back(s: &[u8], n: usize) -> &[u8] {
 }
 
 // A long output by its two ends.
-pub fn ends(out: &[u8]) {
-    words(b" out");
-    hex(front(out, 6));
-    words(b" ..");
-    hex(back(out, 2));
-    words(b"\n");
+pub fn ends(to: &mut impl Write, out: &[u8]) -> io::Result<()> {
+    words(to, b" out")?;
+    hex(to, front(out, 6))?;
+    words(to, b" ..")?;
+    hex(to, back(out, 2))?;
+    words(to, b"\n")
 }
 
 // An output, all of it.
-pub fn full(out: &[u8]) {
-    words(b" out ");
-    text(out);
-    words(b"\n");
+pub fn full(to: &mut impl Write, out: &[u8]) -> io::Result<()> {
+    words(to, b" out ")?;
+    text(to, out)?;
+    words(to, b"\n")
 }
 
 // A writer's answer.
-pub fn wrote(w: Written) {
-    answer(w.what, w.number);
-    value(b" len ", w.len as u64);
+pub fn wrote(to: &mut impl Write, w: Written) -> io::Result<()> {
+    answer(to, w.what, w.number)?;
+    value(to, b" len ", w.len as u64)
 }

@@ -1,12 +1,16 @@
 // The first exchange of two ends on the default tables, the server holding an Ed25519 key: each writes its KEXINIT and
 // frames it, reads the other's packet and settles; the two records are compared. Then two ends that share no cipher.
 // What is written is held to the file stdout.
+#![tactic(auto)]
+
 use answer::{Refusal, refuse};
 use choice::Side;
 use framing::{Counters, GotPacket, Packet, Sealed};
 use negotiation::{GotNames, Names};
 use preferred::defaults;
 use put::Put;
+use std::io;
+use std::io::Write;
 use text::front;
 
 // Room for a KEXINIT of the default tables, and for its packet.
@@ -16,58 +20,59 @@ const ROOM: usize = 2048;
 const ED25519: [u8; 1] = [0];
 
 // What an end came to.
-#[derive(Drop)]
+#[derive(Clone, Copy)]
 enum Ending {
     Settled(Names),
     Refused(Refusal),
     Needs(usize),
 }
 
-fn words(s: &[u8]) {
-    io::write_all(1, s);
+fn words(to: &mut impl Write, s: &[u8]) -> io::Result<()> {
+    to.write_all(s)
 }
 
-fn value(s: &[u8], n: usize) {
-    words(s);
-    io::print_decimal(1, n as u64);
+fn value(to: &mut impl Write, s: &[u8], n: usize) -> io::Result<()> {
+    words(to, s)?;
+    write!(to, "{n}")
 }
 
 // By a writer.
-fn refused(number: u8) {
-    value(b"refused with ", names::wide(number));
+fn refused(to: &mut impl Write, number: u8) -> io::Result<()> {
+    value(to, b"refused with ", names::wide(number))
 }
 
 // By a reader.
-fn refused_at(r: Refusal) {
-    refused(r.number);
-    value(b" at byte ", r.offset);
+fn refused_at(to: &mut impl Write, r: Refusal) -> io::Result<()> {
+    refused(to, r.number)?;
+    value(to, b" at byte ", r.offset)
 }
 
 // A packet of the payload. Where it ends; 0 where it was refused.
-fn seals(payload: &[u8], packet: &mut [u8]) -> usize {
-    value(b"sends a KEXINIT of ", payload.len());
+fn seals(to: &mut impl Write, payload: &[u8], packet: &mut [u8]) -> io::Result<usize> {
+    value(to, b"sends a KEXINIT of ", payload.len())?;
     let w = framing::write(payload, Counters { seqn: 0, bytes: 0 }, packet);
     match w {
         Sealed::Total(total, _) => {
-            value(b" bytes in a packet of ", total);
-            total
+            value(to, b" bytes in a packet of ", total)?;
+            Ok(total)
         }
         Sealed::Refused(number) => {
-            refused(number);
-            0
+            refused(to, number)?;
+            Ok(0)
         }
     }
 }
 
 // A side's KEXINIT in its first packet.
 fn sends(
+    to: &mut impl Write,
     side: Side,
     cipher: &[u8],
     kinds: &[u8],
     ids: &[u32],
     cookie: &[u8],
     packet: &mut [u8],
-) -> usize {
+) -> io::Result<usize> {
     let mut payload = [0u8; ROOM];
     let w = kexinit::write_kex(
         side,
@@ -85,10 +90,10 @@ fn sends(
         &mut payload,
     );
     match w {
-        Put::Next(n) => seals(front(&payload, n), packet),
+        Put::Next(n) => seals(to, front(&payload, n), packet),
         Put::Refused(number) => {
-            refused(number);
-            0
+            refused(to, number)?;
+            Ok(0)
         }
     }
 }
@@ -134,20 +139,20 @@ fn reads(side: Side, cipher: &[u8], kinds: &[u8], ids: &[u32], s: &[u8]) -> Endi
     }
 }
 
-fn tells(before: &[u8], e: Ending) {
+fn tells(to: &mut impl Write, before: &[u8], e: Ending) -> io::Result<()> {
     let mut text = [0u8; 1024];
     match e {
         Ending::Settled(n) => {
             let end = say::put_settled(n, before, &mut text);
-            words(front(&text, end));
+            words(to, front(&text, end))
         }
         Ending::Refused(r) => {
-            words(before);
-            refused_at(r);
+            words(to, before)?;
+            refused_at(to, r)
         }
         Ending::Needs(n) => {
-            words(before);
-            value(b"needs ", n);
+            words(to, before)?;
+            value(to, b"needs ", n)
         }
     }
 }
@@ -158,61 +163,61 @@ fn same_names(a: Names, b: Names) -> bool {
     text::same(&x, &y)
 }
 
-fn settled_same(a: Names, e: Ending) {
+fn settled_same(to: &mut impl Write, a: Names, e: Ending) -> io::Result<()> {
     let Ending::Settled(b) = e else {
-        words(b"\none end settled alone\n");
-        return;
+        return words(to, b"\none end settled alone\n");
     };
     if same_names(a, b) {
-        words(b"\nboth settled, on equal records\n");
+        words(to, b"\nboth settled, on equal records\n")
     } else {
-        words(b"\nboth settled, on different records\n");
+        words(to, b"\nboth settled, on different records\n")
     }
 }
 
 // By their numbers: each end reads the other's payload, where its list stands elsewhere.
-fn refused_same(r: Refusal, e: Ending) {
+fn refused_same(to: &mut impl Write, r: Refusal, e: Ending) -> io::Result<()> {
     let Ending::Refused(q) = e else {
-        words(b"\none end refused alone\n");
-        return;
+        return words(to, b"\none end refused alone\n");
     };
     if r.number == q.number {
-        words(b"\nboth refused, with equal numbers\n");
+        words(to, b"\nboth refused, with equal numbers\n")
     } else {
-        words(b"\nboth refused, with different numbers\n");
+        words(to, b"\nboth refused, with different numbers\n")
     }
 }
 
-fn compares(a: Ending, b: Ending) {
+fn compares(to: &mut impl Write, a: Ending, b: Ending) -> io::Result<()> {
     match a {
-        Ending::Settled(n) => settled_same(n, b),
-        Ending::Refused(r) => refused_same(r, b),
-        Ending::Needs(_) => words(b"\nno whole packet came\n"),
+        Ending::Settled(n) => settled_same(to, n, b),
+        Ending::Refused(r) => refused_same(to, r, b),
+        Ending::Needs(_) => words(to, b"\nno whole packet came\n"),
     }
 }
 
-fn exchange(client_cipher: &[u8], server_cipher: &[u8]) {
+fn exchange(to: &mut impl Write, client_cipher: &[u8], server_cipher: &[u8]) -> io::Result<()> {
     let ids = [1u32];
     let mut from_client = [0u8; ROOM];
     let mut from_server = [0u8; ROOM];
-    words(b"\nclient ");
+    words(to, b"\nclient ")?;
     let c = sends(
+        to,
         Side::Client,
         client_cipher,
         b"",
         &ids[..0],
         b"client's cookie.",
         &mut from_client,
-    );
-    words(b"\nserver ");
+    )?;
+    words(to, b"\nserver ")?;
     let s = sends(
+        to,
         Side::Server,
         server_cipher,
         &ED25519,
         &ids,
         b"server's cookie.",
         &mut from_server,
-    );
+    )?;
     let client = reads(
         Side::Client,
         client_cipher,
@@ -227,14 +232,21 @@ fn exchange(client_cipher: &[u8], server_cipher: &[u8]) {
         &ids,
         front(&from_client, c),
     );
-    tells(b"\nclient ", client);
-    tells(b"\nserver ", server);
-    compares(client, server);
+    tells(to, b"\nclient ", client)?;
+    tells(to, b"\nserver ", server)?;
+    compares(to, client, server)
 }
 
-fn main() {
-    words(b"The default tables, the server with an Ed25519 key:");
-    exchange(&defaults::CIPHER, &defaults::CIPHER);
-    words(b"\nThe client with chacha20-poly1305 alone, the server with aes128-ctr alone:");
-    exchange(b"\x0A", b"\x02");
+fn exchanges(to: &mut impl Write) -> io::Result<()> {
+    words(to, b"The default tables, the server with an Ed25519 key:")?;
+    exchange(to, &defaults::CIPHER, &defaults::CIPHER)?;
+    words(
+        to,
+        b"\nThe client with chacha20-poly1305 alone, the server with aes128-ctr alone:",
+    )?;
+    exchange(to, b"\x0A", b"\x02")
+}
+
+fn main(rt: HostRuntime) -> io::Result<()> {
+    exchanges(&mut io::writer(&rt))
 }

@@ -7,10 +7,12 @@ use channels::OpenChannelMessage;
 use choice::Side;
 use framing::Counters;
 use replies::ChannelOpenConfirmation;
+use std::io;
+use std::io::Write;
 use wire::answers::Place;
 
 // Ours, and the reader after the input.
-#[derive(Drop)]
+#[derive(Clone, Copy)]
 pub enum Said {
     Ours(Told, Reader),
     Malformed,
@@ -21,6 +23,7 @@ const WORD: u64 = 4294967295;
 
 // Both functions are lent the same lists. The last bytes are the cookie to write with, or the payload to read.
 fn kex_with(
+    to: &mut impl Write,
     line: &[u8],
     at: usize,
     writes: bool,
@@ -31,7 +34,7 @@ fn kex_with(
     strict_agreed: bool,
     last: &[u8],
     space: &[u8],
-) -> Told {
+) -> io::Result<Told> {
     let kexes = part(space, places[0]);
     let key = part(space, places[1]);
     let certificate = part(space, places[2]);
@@ -57,7 +60,7 @@ fn kex_with(
             last,
             &mut out,
         );
-        return answers::written(line, at, w, &out);
+        return answers::written(to, line, at, w, &out);
     }
     let got = negotiation::read_kex(
         side,
@@ -74,10 +77,11 @@ fn kex_with(
         strict_agreed,
         last,
     );
-    answers::settled(line, at, got)
+    answers::settled(to, line, at, got)
 }
 
 fn kex(
+    to: &mut impl Write,
     line: &[u8],
     at: usize,
     writes: bool,
@@ -85,7 +89,7 @@ fn kex(
     strict_agreed: bool,
     last: Place,
     space: &[u8],
-) -> Told {
+) -> io::Result<Told> {
     let places = t.places;
     let side = t.side;
     let mut key_ids = [0u32; 8];
@@ -93,6 +97,7 @@ fn kex(
     let k = identities(part(space, places[7]), &mut key_ids);
     let c = identities(part(space, places[9]), &mut cert_ids);
     kex_with(
+        to,
         line,
         at,
         writes,
@@ -106,42 +111,53 @@ fn kex(
     )
 }
 
-fn read_kex(line: &[u8], r: Reader, space: &[u8], at: usize) -> Said {
+fn read_kex(
+    to: &mut impl Write,
+    line: &[u8],
+    r: Reader,
+    space: &[u8],
+    at: usize,
+) -> io::Result<Said> {
     let t = read_tables(line, r);
     if !t.whole {
-        return Said::Malformed;
+        return Ok(Said::Malformed);
     }
     let n = t.end.number(line);
     let GotNumber::Number(strict_agreed, r1) = n else {
-        return Said::Malformed;
+        return Ok(Said::Malformed);
     };
     if 1 < strict_agreed {
-        return Said::Malformed;
+        return Ok(Said::Malformed);
     }
     let b = r1.bytes(line);
     let GotBytes::Bytes(payload, end) = b else {
-        return Said::Malformed;
+        return Ok(Said::Malformed);
     };
-    Said::Ours(
-        kex(line, at, false, t, strict_agreed == 1, payload, space),
-        end,
-    )
+    let told = kex(to, line, at, false, t, strict_agreed == 1, payload, space)?;
+    Ok(Said::Ours(told, end))
 }
 
-fn write_kex(line: &[u8], r: Reader, space: &[u8], at: usize) -> Said {
+fn write_kex(
+    to: &mut impl Write,
+    line: &[u8],
+    r: Reader,
+    space: &[u8],
+    at: usize,
+) -> io::Result<Said> {
     let t = read_tables(line, r);
     if !t.whole {
-        return Said::Malformed;
+        return Ok(Said::Malformed);
     }
     let b = t.end.bytes(line);
     let GotBytes::Bytes(cookie, end) = b else {
-        return Said::Malformed;
+        return Ok(Said::Malformed);
     };
-    Said::Ours(kex(line, at, true, t, false, cookie, space), end)
+    let told = kex(to, line, at, true, t, false, cookie, space)?;
+    Ok(Said::Ours(told, end))
 }
 
 // A uint32, a number and bytes: what three of the functions are asked with.
-#[derive(Drop)]
+#[derive(Clone, Copy)]
 pub enum GotThree {
     Three(u32, u64, Place, Reader),
     Malformed,
@@ -166,107 +182,136 @@ fn three(line: &[u8], r: Reader) -> GotThree {
     GotThree::Three(first as u32, second, p, end)
 }
 
-fn frame_read(line: &[u8], r: Reader, space: &[u8], at: usize) -> Said {
+fn frame_read(
+    to: &mut impl Write,
+    line: &[u8],
+    r: Reader,
+    space: &[u8],
+    at: usize,
+) -> io::Result<Said> {
     let x = three(line, r);
     let GotThree::Three(seqn, bytes, p, end) = x else {
-        return Said::Malformed;
+        return Ok(Said::Malformed);
     };
     let s = part(space, p);
     let got = framing::read(s, Counters { seqn, bytes });
-    Said::Ours(answers::packet(line, at, got, s), end)
+    let told = answers::packet(to, line, at, got, s)?;
+    Ok(Said::Ours(told, end))
 }
 
-fn frame_write(line: &[u8], r: Reader, space: &[u8], at: usize) -> Said {
+fn frame_write(
+    to: &mut impl Write,
+    line: &[u8],
+    r: Reader,
+    space: &[u8],
+    at: usize,
+) -> io::Result<Said> {
     let x = three(line, r);
     let GotThree::Three(seqn, bytes, p, end) = x else {
-        return Said::Malformed;
+        return Ok(Said::Malformed);
     };
     let mut out = room();
     let w = framing::write(part(space, p), Counters { seqn, bytes }, &mut out);
-    Said::Ours(answers::sealed(line, at, w, &out), end)
+    let told = answers::sealed(to, line, at, w, &out)?;
+    Ok(Said::Ours(told, end))
 }
 
-fn open(line: &[u8], r: Reader, space: &[u8], at: usize) -> Said {
+fn open(to: &mut impl Write, line: &[u8], r: Reader, space: &[u8], at: usize) -> io::Result<Said> {
     let x = r.bytes(line);
     let GotBytes::Bytes(p, end) = x else {
-        return Said::Malformed;
+        return Ok(Said::Malformed);
     };
     let body = part(space, p);
     let got = OpenChannelMessage::parse(body);
-    Said::Ours(answers::opened(line, at, got, body), end)
+    let told = answers::opened(to, line, at, got, body)?;
+    Ok(Said::Ours(told, end))
 }
 
-fn confirmation(line: &[u8], r: Reader, space: &[u8], at: usize) -> Said {
+fn confirmation(
+    to: &mut impl Write,
+    line: &[u8],
+    r: Reader,
+    space: &[u8],
+    at: usize,
+) -> io::Result<Said> {
     let x = r.bytes(line);
     let GotBytes::Bytes(p, end) = x else {
-        return Said::Malformed;
+        return Ok(Said::Malformed);
     };
     let got = ChannelOpenConfirmation::parse(part(space, p));
-    Said::Ours(answers::confirmed(line, at, got), end)
+    let told = answers::confirmed(to, line, at, got)?;
+    Ok(Said::Ours(told, end))
 }
 
-fn fail(line: &[u8], r: Reader, space: &[u8], at: usize) -> Said {
+fn fail(to: &mut impl Write, line: &[u8], r: Reader, space: &[u8], at: usize) -> io::Result<Said> {
     let x = three(line, r);
     let GotThree::Three(recipient, reason, p, end) = x else {
-        return Said::Malformed;
+        return Ok(Said::Malformed);
     };
     if 255 < reason {
-        return Said::Malformed;
+        return Ok(Said::Malformed);
     }
     let mut out = room();
     let w = replies::fail(recipient, reason as u8, part(space, p), &mut out);
-    Said::Ours(answers::written(line, at, w, &out), end)
+    let told = answers::written(to, line, at, w, &out)?;
+    Ok(Said::Ours(told, end))
 }
 
-fn unknown_type(line: &[u8], r: Reader, at: usize) -> Said {
+fn unknown_type(to: &mut impl Write, line: &[u8], r: Reader, at: usize) -> io::Result<Said> {
     let a = r.number(line);
     let GotNumber::Number(recipient, end) = a else {
-        return Said::Malformed;
+        return Ok(Said::Malformed);
     };
     if WORD < recipient {
-        return Said::Malformed;
+        return Ok(Said::Malformed);
     }
     let mut out = room();
     let w = replies::unknown_type(recipient as u32, &mut out);
-    Said::Ours(answers::written(line, at, w, &out), end)
+    let told = answers::written(to, line, at, w, &out)?;
+    Ok(Said::Ours(told, end))
 }
 
-fn show(line: &[u8], r: Reader, space: &[u8], at: usize) -> Said {
+fn show(to: &mut impl Write, line: &[u8], r: Reader, space: &[u8], at: usize) -> io::Result<Said> {
     let x = r.bytes(line);
     let GotBytes::Bytes(p, r1) = x else {
-        return Said::Malformed;
+        return Ok(Said::Malformed);
     };
     let a = r1.number(line);
     let GotNumber::Number(start, r2) = a else {
-        return Said::Malformed;
+        return Ok(Said::Malformed);
     };
     let b = r2.number(line);
     let GotNumber::Number(len, end) = b else {
-        return Said::Malformed;
+        return Ok(Said::Malformed);
     };
     let s = part(space, p);
     let place = Place {
         start: start as usize,
         len: len as usize,
     };
-    Said::Ours(
-        answers::shown(line, at, shapes::judge_place(s, place), s),
-        end,
-    )
+    let told = answers::shown(to, line, at, shapes::judge_place(s, place), s)?;
+    Ok(Said::Ours(told, end))
 }
 
 // By the function's place in the report.
-pub fn ask(function: usize, line: &[u8], r: Reader, space: &[u8], at: usize) -> Said {
+pub fn ask(
+    to: &mut impl Write,
+    function: usize,
+    line: &[u8],
+    r: Reader,
+    space: &[u8],
+    at: usize,
+) -> io::Result<Said> {
     match function {
-        0 => read_kex(line, r, space, at),
-        1 => write_kex(line, r, space, at),
-        2 => frame_read(line, r, space, at),
-        3 => frame_write(line, r, space, at),
-        4 => open(line, r, space, at),
-        5 => confirmation(line, r, space, at),
-        6 => fail(line, r, space, at),
-        7 => unknown_type(line, r, at),
-        8 => show(line, r, space, at),
-        _ => Said::Malformed,
+        0 => read_kex(to, line, r, space, at),
+        1 => write_kex(to, line, r, space, at),
+        2 => frame_read(to, line, r, space, at),
+        3 => frame_write(to, line, r, space, at),
+        4 => open(to, line, r, space, at),
+        5 => confirmation(to, line, r, space, at),
+        6 => fail(to, line, r, space, at),
+        7 => unknown_type(to, line, r, at),
+        8 => show(to, line, r, space, at),
+        _ => Ok(Said::Malformed),
     }
 }

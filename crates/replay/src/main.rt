@@ -1,5 +1,7 @@
 // Replays recorded answers of the Rust (oracle/README.md): each line's input is put to our code, and what it answers must
 // be what the line says. The list is the file that the first argument names; what is written is held to the file stdout.
+#![tactic(auto)]
+
 mod answers;
 mod ask;
 mod reader;
@@ -10,19 +12,30 @@ mod tell;
 use ask::Said;
 use reader::{Reader, room, skip, spread, until};
 use report::{CELLS, NO_CELL};
-use tell::{ALOUD, word};
+use std::fs::File;
+use std::io;
+use std::io::Write;
+use std::os::unix::fs::FileExt;
+use std::rt::Env;
+use tell::{ALOUD, held};
 use text::front;
 use wire::answers::Cursor;
 
+// As much of the list as is read for a line: a longer line cannot be read.
+const PIECE: usize = 65536;
+
+// The longest name of the list.
+const PATH: usize = 4096;
+
 // What a line came to: the count that its answer belongs to, and 1 where it differs.
-#[derive(Drop)]
+#[derive(Clone, Copy)]
 struct Judged {
     cell: usize,
     wrong: u64,
 }
 
 // The same, and how many bytes the line took: 0 where there is none any more.
-#[derive(Drop)]
+#[derive(Clone, Copy)]
 struct Turn {
     judged: Judged,
     taken: u64,
@@ -30,33 +43,39 @@ struct Turn {
 
 // Where the recorded answer starts, after ` = `, which stands in no word; 0 where there is none.
 fn answer_at(line: &[u8]) -> usize {
-    let mut i = 0;
-    while i < line.len() {
-        let at = word(line, i, b" = ");
+    for i in 0..line.len() {
+        let at = held(line, i, b" = ");
         if at <= line.len() {
             return at;
         }
-        i += 1;
     }
     0
 }
 
-fn unread(number: u64) -> Judged {
-    report::malformed(number);
-    Judged {
+fn unread(to: &mut impl Write, number: u64) -> io::Result<Judged> {
+    report::malformed(to, number)?;
+    Ok(Judged {
         cell: NO_CELL,
         wrong: 1,
-    }
+    })
 }
 
 // An answer that is not the recorded one is asked for once more, and told aloud.
-fn differs(line: &[u8], number: u64, space: &[u8], function: usize, start: Reader, at: usize) {
-    report::differs(number, Cursor { at }.rest(line));
-    ask::ask(function, line, start, space, ALOUD);
-    report::words(b"\n");
+fn differs(
+    to: &mut impl Write,
+    line: &[u8],
+    number: u64,
+    space: &[u8],
+    function: usize,
+    start: Reader,
+    at: usize,
+) -> io::Result<()> {
+    report::differs(to, number, Cursor { at }.rest(line))?;
+    ask::ask(to, function, line, start, space, ALOUD)?;
+    report::words(to, b"\n")
 }
 
-fn judge(line: &[u8], number: u64, space: &[u8]) -> Judged {
+fn judge(to: &mut impl Write, line: &[u8], number: u64, space: &[u8]) -> io::Result<Judged> {
     let end = until(line, 0, 32);
     let function = report::place(front(line, end));
     let start = Reader {
@@ -64,108 +83,112 @@ fn judge(line: &[u8], number: u64, space: &[u8]) -> Judged {
         used: 0,
     };
     let at = answer_at(line);
-    let said = ask::ask(function, line, start, space, at);
+    let said = ask::ask(to, function, line, start, space, at)?;
     let Said::Ours(told, r) = said else {
-        return unread(number);
+        return unread(to, number);
     };
-    if word(line, r.at, b"= ") != at {
-        return unread(number);
+    if held(line, r.at, b"= ") != at {
+        return unread(to, number);
     }
     let cell = report::cell_of(function, told.sort);
     if told.at == line.len() {
-        return Judged { cell, wrong: 0 };
+        return Ok(Judged { cell, wrong: 0 });
     }
-    differs(line, number, space, function, start, at);
-    Judged { cell, wrong: 1 }
+    differs(to, line, number, space, function, start, at)?;
+    Ok(Judged { cell, wrong: 1 })
 }
 
 // A line that starts with `#` says what follows.
-fn answered(line: &[u8], number: u64) -> Judged {
+fn answered(to: &mut impl Write, line: &[u8], number: u64) -> io::Result<Judged> {
     if skip(line, 0, 35) != 0 {
-        return Judged {
+        return Ok(Judged {
             cell: NO_CELL,
             wrong: 0,
-        };
+        });
     }
     let mut space = room();
     spread(line, &mut space);
-    judge(line, number, &space)
+    judge(to, line, number, &space)
 }
 
-// How many bytes of the file stand in the piece.
-fn read_at(fd: i32, piece: &mut [u8], offset: u64) -> usize {
+// How many bytes of the file stand in the piece: none where it cannot be read.
+fn read_at(file: &File, piece: &mut [u8], offset: u64) -> usize {
     if 9223372036854775807 < offset {
         return 0;
     }
-    let got = libc::pread(fd, piece, offset as i64);
-    io::count(got, piece)
+    match file.read_at(piece, offset) {
+        Ok(n) => n,
+        Err(_) => 0,
+    }
 }
 
 // What is left where no whole line is: nothing, or a line that has no end.
-fn left(n: usize, number: u64) -> Turn {
+fn left(to: &mut impl Write, n: usize, number: u64) -> io::Result<Turn> {
     if n == 0 {
-        return Turn {
+        return Ok(Turn {
             judged: Judged {
                 cell: NO_CELL,
                 wrong: 0,
             },
             taken: 0,
-        };
+        });
     }
-    Turn {
-        judged: unread(number),
+    Ok(Turn {
+        judged: unread(to, number)?,
         taken: 0,
-    }
+    })
 }
 
 // The line that starts at the offset.
-fn line_at(fd: i32, offset: u64, number: u64) -> Turn {
-    let mut piece = io::large_buffer();
-    let n = read_at(fd, &mut piece, offset);
+fn line_at(to: &mut impl Write, file: &File, offset: u64, number: u64) -> io::Result<Turn> {
+    let mut piece = [0u8; PIECE];
+    let n = read_at(file, &mut piece, offset);
     let end = until(front(&piece, n), 0, 10);
     if end == n {
-        return left(n, number);
+        return left(to, n, number);
     }
-    Turn {
-        judged: answered(front(&piece, end), number),
-        taken: std::num::wrapping_add_u64(end as u64, 1),
-    }
+    Ok(Turn {
+        judged: answered(to, front(&piece, end), number)?,
+        taken: (end as u64).wrapping_add(1),
+    })
 }
 
 // How many lines differ. Nothing says that a file ends, so the lines are counted.
-fn replay(fd: i32, counts: &mut [u64; CELLS]) -> u64 {
-    let mut number: u64 = 1;
+fn replay(to: &mut impl Write, file: &File, counts: &mut [u64; CELLS]) -> io::Result<u64> {
     let mut wrong: u64 = 0;
     let mut offset: u64 = 0;
-    while number < u64::MAX {
-        let t = line_at(fd, offset, number);
+    for number in 1..u64::MAX {
+        let t = line_at(to, file, offset, number)?;
         let j = t.judged;
         report::count(counts, j.cell);
-        wrong = std::num::wrapping_add_u64(wrong, j.wrong);
+        wrong = wrong.wrapping_add(j.wrong);
         if t.taken == 0 {
-            return wrong;
+            return Ok(wrong);
         }
-        offset = std::num::wrapping_add_u64(offset, t.taken);
-        number += 1;
+        offset = offset.wrapping_add(t.taken);
     }
-    wrong
+    Ok(wrong)
 }
 
-fn reports(fd: i32) {
+fn reports(to: &mut impl Write, file: &File) -> io::Result<()> {
     let mut counts = [0u64; CELLS];
-    let wrong = replay(fd, &mut counts);
-    report::table(&counts);
-    report::end(wrong);
+    let wrong = replay(to, file, &mut counts)?;
+    report::table(to, &counts)?;
+    report::end(to, wrong)
 }
 
-fn main() {
-    let mut path = io::buffer();
-    let length = os::arg(1, &mut path);
-    let fd = os::open_read(&path[..length]);
-    if fd < 0 {
-        report::words(b"the list cannot be opened\n");
-        return;
+// The file that the first argument names, where it can be opened, which it is by a name that is UTF-8.
+fn list(rt: &HostRuntime) -> Option<File> {
+    let mut path = [0u8; PATH];
+    let length = rt.arg(1, &mut path).ok()?;
+    let path = str::from_utf8(&path[..length]).ok()?;
+    File::open(rt, path).ok()
+}
+
+fn main(rt: HostRuntime) -> io::Result<()> {
+    let mut out = io::writer(&rt);
+    match list(&rt) {
+        Some(file) => reports(&mut out, &file),
+        None => report::words(&mut out, b"the list cannot be opened\n"),
     }
-    reports(fd);
-    libc::close(fd);
 }

@@ -15,33 +15,33 @@ pub fn room() -> [u8; SPACE]
     [0; SPACE]
 }
 
-#[derive(Drop)]
+#[derive(Clone, Copy)]
 pub struct Reader {
     pub at: usize,
     pub used: usize,
 }
 
-#[derive(Drop)]
+#[derive(Clone, Copy)]
 pub enum GotNumber {
     Number(u64, Reader),
     Malformed,
 }
 
-#[derive(Drop)]
+#[derive(Clone, Copy)]
 pub enum GotBytes {
     Bytes(Place, Reader),
     Malformed,
 }
 
 // Digits, and where they end.
-#[derive(Drop)]
+#[derive(Clone, Copy)]
 struct Digits {
     value: u64,
     next: usize,
 }
 
 // One byte or a run of it, and where its text ends. A count of 0 is no unit.
-#[derive(Drop)]
+#[derive(Clone, Copy)]
 struct Piece {
     byte: u8,
     count: usize,
@@ -69,14 +69,12 @@ fn wide(x: u8) -> u64
 pub fn until(s: &[u8], at: usize, byte: u8) -> usize
     ensures { (at ≤ result) × (result - at ≤ length s.now - at) }
 {
-    let mut i = at;
-    while i < s.len() {
+    for i in at..s.len() {
         if s[i] == byte {
             return i;
         }
-        i += 1;
     }
-    i
+    at.max(s.len())
 }
 
 // The place after the byte at `at`, or `at` where another stands there.
@@ -96,8 +94,7 @@ fn decimal(line: &[u8], at: usize) -> Digits
     ensures { at ≤ result.next }
 {
     let mut n: u64 = 0;
-    let mut i = at;
-    while i < line.len() {
+    for i in at..line.len() {
         let d = digit(line[i]);
         if 9 < d {
             return Digits { value: n, next: i };
@@ -109,9 +106,11 @@ fn decimal(line: &[u8], at: usize) -> Digits
             return Digits { value: n, next: i };
         }
         n = n * 10 + d;
-        i += 1;
     }
-    Digits { value: n, next: i }
+    Digits {
+        value: n,
+        next: at.max(line.len()),
+    }
 }
 
 fn nothing(next: usize) -> Piece
@@ -248,10 +247,8 @@ fn closed(line: &[u8], end: usize, start: usize, used: usize) -> GotBytes
 fn fill(space: &mut [u8], from: usize, to: usize, byte: u8)
     requires { to ≤ length space.old }
 {
-    let mut i = from;
-    while i < to {
+    for i in from..to {
         space[i] = byte;
-        i += 1;
     }
 }
 

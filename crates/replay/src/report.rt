@@ -1,5 +1,7 @@
 // What is written: each line that differs, and how many answers of each function and sort were replayed.
 use names::Row;
+use std::io;
+use std::io::Write;
 
 const FUNCTIONS: usize = 9;
 
@@ -16,26 +18,26 @@ pub const CELLS: usize = 154;
 // For what is not counted.
 pub const NO_CELL: usize = CELLS;
 
-pub fn words(s: &[u8]) {
-    io::write_all(1, s);
+pub fn words(to: &mut impl Write, s: &[u8]) -> io::Result<()> {
+    to.write_all(s)
 }
 
-pub fn value(s: &[u8], n: u64) {
-    words(s);
-    io::print_decimal(1, n);
+pub fn value(to: &mut impl Write, s: &[u8], n: u64) -> io::Result<()> {
+    words(to, s)?;
+    write!(to, "{n}")
 }
 
-pub fn malformed(number: u64) {
-    value(b"line ", number);
-    words(b" cannot be read\n");
+pub fn malformed(to: &mut impl Write, number: u64) -> io::Result<()> {
+    value(to, b"line ", number)?;
+    words(to, b" cannot be read\n")
 }
 
 // Ours is written after it.
-pub fn differs(number: u64, recorded: &[u8]) {
-    value(b"line ", number);
-    words(b": recorded ");
-    words(recorded);
-    words(b", ours ");
+pub fn differs(to: &mut impl Write, number: u64, recorded: &[u8]) -> io::Result<()> {
+    value(to, b"line ", number)?;
+    words(to, b": recorded ")?;
+    words(to, recorded)?;
+    words(to, b", ours ")
 }
 
 // The functions' names as columns, in the report's order: looked up and spelled as the tables' names are.
@@ -64,8 +66,8 @@ pub fn place(name: &[u8]) -> usize {
     }
 }
 
-fn name(function: usize) {
-    words(names::spelling(&SPELLINGS, &STARTS, &LENGTHS, function));
+fn name(to: &mut impl Write, function: usize) -> io::Result<()> {
+    words(to, names::spelling(&SPELLINGS, &STARTS, &LENGTHS, function))
 }
 
 pub fn cell_of(function: usize, sort: u8) -> usize {
@@ -78,7 +80,7 @@ pub fn cell_of(function: usize, sort: u8) -> usize {
 
 fn one_more(counts: &mut [u64; CELLS], cell: usize) {
     if cell < CELLS {
-        counts[cell] = std::num::wrapping_add_u64(counts[cell], 1);
+        counts[cell] = counts[cell].wrapping_add(1);
     }
 }
 
@@ -90,51 +92,50 @@ pub fn count(counts: &mut [u64; CELLS], cell: usize) {
     }
 }
 
-fn heading(function: usize, n: u64) {
-    name(function);
-    value(b" ", n);
-    words(b" answers:");
+fn heading(to: &mut impl Write, function: usize, n: u64) -> io::Result<()> {
+    name(to, function)?;
+    value(to, b" ", n)?;
+    words(to, b" answers:")
 }
 
-fn answers(sort: usize, n: u64) {
-    value(b" ", n);
+fn answers(to: &mut impl Write, sort: usize, n: u64) -> io::Result<()> {
+    value(to, b" ", n)?;
     match sort {
-        0 => words(b" ok;"),
-        15 => words(b" need;"),
+        0 => words(to, b" ok;"),
+        15 => words(to, b" need;"),
         _ => {
-            value(b" no ", sort as u64);
-            words(b";");
+            value(to, b" no ", sort as u64)?;
+            words(to, b";")
         }
     }
 }
 
-fn cell(row: usize, column: usize, n: u64) {
+fn cell(to: &mut impl Write, row: usize, column: usize, n: u64) -> io::Result<()> {
     if column == 0 {
-        heading(row, n);
+        heading(to, row, n)?;
     } else if n != 0 {
-        answers(column - 1, n);
+        answers(to, column - 1, n)?;
     }
     if column == SORTS {
-        words(b"\n");
+        words(to, b"\n")?;
     }
+    Ok(())
 }
 
 // A line for each function: how often it gave each sort of answer.
-pub fn table(counts: &[u64; CELLS]) {
-    let mut i = 0;
-    while i < TOTAL {
-        cell(i / COLUMNS, i % COLUMNS, counts[i]);
-        i += 1;
+pub fn table(to: &mut impl Write, counts: &[u64; CELLS]) -> io::Result<()> {
+    for i in 0..TOTAL {
+        cell(to, i / COLUMNS, i % COLUMNS, counts[i])?;
     }
-    value(b"all ", counts[TOTAL]);
-    words(b" answers\n");
+    value(to, b"all ", counts[TOTAL])?;
+    words(to, b" answers\n")
 }
 
-pub fn end(wrong: u64) {
+pub fn end(to: &mut impl Write, wrong: u64) -> io::Result<()> {
     if wrong == 0 {
-        words(b"all agreed\n");
+        words(to, b"all agreed\n")
     } else {
-        value(b"lines that differ: ", wrong);
-        words(b"\n");
+        value(to, b"lines that differ: ", wrong)?;
+        words(to, b"\n")
     }
 }

@@ -1,13 +1,13 @@
 // A side's tables as a line has them: the side, then ten lists in the order of `read_kex`'s parameters.
-ghost use Rattle.io.specs.Counts.{IsPrefixLen};
+ghost use Rattle.std.specs.Prelude.{◌≡◌, ◌≤◌, length, take};
 
 use crate::reader::{GotBytes, Reader};
-use crate::tell::word;
+use crate::tell::held;
 use choice::Side;
 use wire::answers::{Cursor, GotWord, Place};
 
 // The side, the lists' places in the space, and the reader after them. Not whole where the line is malformed.
-#[derive(Drop)]
+#[derive(Clone, Copy)]
 pub struct Tables {
     pub side: Side,
     pub places: [Place; 10],
@@ -23,18 +23,17 @@ pub fn part<'a>(space: &'a [u8], p: Place) -> &'a [u8] {
 
 // The lists follow the space after a side's word.
 pub fn read_tables(line: &[u8], r: Reader) -> Tables {
-    let client = word(line, r.at, b"client ");
+    let client = held(line, r.at, b"client ");
     if client <= line.len() {
         return read_lists(line, Side::Client, client);
     }
-    read_lists(line, Side::Server, word(line, r.at, b"server "))
+    read_lists(line, Side::Server, held(line, r.at, b"server "))
 }
 
 fn read_lists(line: &[u8], side: Side, at: usize) -> Tables {
     let mut places = [Place { start: 0, len: 0 }; 10];
     let mut end = Reader { at, used: 0 };
-    let mut i = 0;
-    while i < 10 {
+    for i in 0..10 {
         let got = end.bytes(line);
         let GotBytes::Bytes(p, next) = got else {
             return Tables {
@@ -46,7 +45,6 @@ fn read_lists(line: &[u8], side: Side, at: usize) -> Tables {
         };
         places[i] = p;
         end = next;
-        i += 1;
     }
     Tables {
         side,
@@ -63,18 +61,17 @@ fn rows(p: Place) -> bool {
 
 // How many there are.
 pub fn identities(s: &[u8], ids: &mut [u32]) -> usize
-    ensures { IsPrefixLen result ids.new }
+    ensures within { result ≤ length ids.new }
+    ensures whole { result ≡ length (take result ids.new) }
 {
     let mut c = Cursor { at: 0 };
-    let mut n = 0;
-    while n < ids.len() {
+    for n in 0..ids.len() {
         let w = c.u32(s);
         let GotWord::Word(id, next) = w else {
             return n;
         };
         ids[n] = id;
         c = next;
-        n += 1;
     }
-    n
+    ids.len()
 }

@@ -3,6 +3,9 @@
 ghost use Rattle.std.specs.Prelude.{◌<◌, ◌≤◌, length};
 
 use answer::Refusal;
+use itoa::Buffer;
+use std::io;
+use std::io::Write;
 
 // The line said something else.
 const DIFFERS: usize = 18446744073709551615;
@@ -13,18 +16,18 @@ pub const ALOUD: usize = 18446744073709551614;
 // What a count of answers is kept by: 0 for accepted, the refusal's number, or this.
 pub const NEED: u8 = 15;
 
+// The digits to base 16.
+const DIGITS: [u8; 16] = *b"0123456789abcdef";
+
 // Where the answer ends in the line, and its sort.
-#[derive(Drop)]
+#[derive(Clone, Copy)]
 pub struct Told {
     pub at: usize,
     pub sort: u8,
 }
 
-pub fn word(line: &[u8], at: usize, x: &[u8]) -> usize {
-    if at == ALOUD {
-        io::write_all(1, x);
-        return ALOUD;
-    }
+// Where the word ends that stands at the place.
+pub fn held(line: &[u8], at: usize, x: &[u8]) -> usize {
     if line.len() < at {
         return DIFFERS;
     }
@@ -38,36 +41,49 @@ pub fn word(line: &[u8], at: usize, x: &[u8]) -> usize {
     DIFFERS
 }
 
-pub fn number(line: &[u8], at: usize, n: u64) -> usize {
-    let mut digits = [0u8; 20];
-    let k = io::decimal(n, &mut digits);
-    let p = word(line, at, b" ");
-    word(line, p, &digits[..k])
+pub fn word(to: &mut impl Write, line: &[u8], at: usize, x: &[u8]) -> io::Result<usize> {
+    if at == ALOUD {
+        to.write_all(x)?;
+        return Ok(ALOUD);
+    }
+    Ok(held(line, at, x))
+}
+
+pub fn number(to: &mut impl Write, line: &[u8], at: usize, n: u64) -> io::Result<usize> {
+    let mut digits = Buffer::new();
+    let p = word(to, line, at, b" ")?;
+    word(to, line, p, digits.format(n).as_bytes())
 }
 
 // A writer's refusal.
-pub fn refused(line: &[u8], at: usize, sort: u8) -> Told {
-    let p = word(line, at, b"no");
-    Told {
-        at: number(line, p, names::wide(sort) as u64),
-        sort,
-    }
+pub fn refused(to: &mut impl Write, line: &[u8], at: usize, sort: u8) -> io::Result<Told> {
+    let p = word(to, line, at, b"no")?;
+    let at = number(to, line, p, names::wide(sort) as u64)?;
+    Ok(Told { at, sort })
 }
 
 // A reader's, which says where.
-pub fn refused_at(line: &[u8], at: usize, r: Refusal) -> Told {
-    let told = refused(line, at, r.number);
-    Told {
-        at: number(line, told.at, r.offset as u64),
+pub fn refused_at(to: &mut impl Write, line: &[u8], at: usize, r: Refusal) -> io::Result<Told> {
+    let told = refused(to, line, at, r.number)?;
+    let at = number(to, line, told.at, r.offset as u64)?;
+    Ok(Told {
+        at,
         sort: told.sort,
-    }
+    })
 }
 
-fn escaped(line: &[u8], at: usize, byte: u8) -> usize {
-    let mut digits = [0u8; 16];
-    let k = io::hex(names::wide(byte) as u64, 2, &mut digits);
-    let p = word(line, at, b"\\");
-    word(line, p, &digits[..k])
+// In two digits to base 16.
+fn hex(byte: u8) -> [u8; 2] {
+    [
+        DIGITS[names::wide(byte / 16)],
+        DIGITS[names::wide(byte % 16)],
+    ]
+}
+
+fn escaped(to: &mut impl Write, line: &[u8], at: usize, byte: u8) -> io::Result<usize> {
+    let digits = hex(byte);
+    let p = word(to, line, at, b"\\")?;
+    word(to, line, p, &digits)
 }
 
 // Printable ASCII but space, `"`, `*` and the backslash.
@@ -79,21 +95,20 @@ fn plain(byte: u8) -> bool {
     }
 }
 
-fn one(line: &[u8], at: usize, byte: u8) -> usize {
+fn one(to: &mut impl Write, line: &[u8], at: usize, byte: u8) -> io::Result<usize> {
     if plain(byte) {
         let x = [byte];
-        return word(line, at, &x);
+        return word(to, line, at, &x);
     }
-    escaped(line, at, byte)
+    escaped(to, line, at, byte)
 }
 
-fn many(line: &[u8], at: usize, byte: u8, count: usize) -> usize {
-    let mut digits = [0u8; 20];
-    let k = io::decimal(count as u64, &mut digits);
-    let p = escaped(line, at, byte);
-    let q = word(line, p, b"*");
-    let s = word(line, q, &digits[..k]);
-    word(line, s, b".")
+fn many(to: &mut impl Write, line: &[u8], at: usize, byte: u8, count: usize) -> io::Result<usize> {
+    let mut digits = Buffer::new();
+    let p = escaped(to, line, at, byte)?;
+    let q = word(to, line, p, b"*")?;
+    let s = word(to, line, q, digits.format(count).as_bytes())?;
+    word(to, line, s, b".")
 }
 
 // Where the run of the byte at `at` ends.
@@ -102,29 +117,27 @@ fn run_end(x: &[u8], at: usize) -> usize
     ensures { (at < result) × (result ≤ length x.now) }
 {
     let byte = x[at];
-    let mut i = at + 1;
-    while i < x.len() {
+    for i in at + 1..x.len() {
         if x[i] != byte {
             return i;
         }
-        i += 1;
     }
-    i
+    x.len()
 }
 
 // A run of fewer than 16 is written byte by byte.
-pub fn bytes(line: &[u8], at: usize, x: &[u8]) -> usize {
-    let mut p = word(line, at, b" \"");
+pub fn bytes(to: &mut impl Write, line: &[u8], at: usize, x: &[u8]) -> io::Result<usize> {
+    let mut p = word(to, line, at, b" \"")?;
     let mut i = 0;
     while i < x.len() {
         let end = run_end(x, i);
         if end - i < 16 {
-            p = one(line, p, x[i]);
+            p = one(to, line, p, x[i])?;
             i += 1;
         } else {
-            p = many(line, p, x[i], end - i);
+            p = many(to, line, p, x[i], end - i)?;
             i = end;
         }
     }
-    word(line, p, b"\"")
+    word(to, line, p, b"\"")
 }

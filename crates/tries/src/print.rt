@@ -1,36 +1,38 @@
 // What is printed: words, numbers, bytes, refusals.
 use answer::Refusal;
+use std::io;
+use std::io::Write;
 
 pub fn wide(x: u8) -> u64 {
     x as u64
 }
 
-pub fn words(s: &[u8]) {
-    io::write_all(1, s);
+pub fn words(to: &mut impl Write, s: &[u8]) -> io::Result<()> {
+    to.write_all(s)
 }
 
-pub fn value(s: &[u8], n: u64) {
-    io::write_all(1, s);
-    io::print_decimal(1, n);
+pub fn value(to: &mut impl Write, s: &[u8], n: u64) -> io::Result<()> {
+    words(to, s)?;
+    write!(to, "{n}")
 }
 
 // By a writer.
-pub fn refused(number: u8) {
-    value(b": refused with ", wide(number));
-    words(b"\n");
+pub fn refused(to: &mut impl Write, number: u8) -> io::Result<()> {
+    value(to, b": refused with ", wide(number))?;
+    words(to, b"\n")
 }
 
 // By a reader.
-pub fn refused_at(r: Refusal) {
-    value(b": refused with ", wide(r.number));
-    value(b" at byte ", r.offset as u64);
-    words(b"\n");
+pub fn refused_at(to: &mut impl Write, r: Refusal) -> io::Result<()> {
+    value(to, b": refused with ", wide(r.number))?;
+    value(to, b" at byte ", r.offset as u64)?;
+    words(to, b"\n")
 }
 
-pub fn hex(s: &[u8]) {
-    let mut i = 0;
-    while i < s.len() {
-        io::print_hex(1, wide(s[i]), 2);
-        i += 1;
+pub fn hex(to: &mut impl Write, s: &[u8]) -> io::Result<()> {
+    for byte in s {
+        let byte = *byte;
+        write!(to, "{byte:02x}")?;
     }
+    Ok(())
 }
