@@ -2,11 +2,12 @@
 # Makes the static library for other processors, of the module that the kit's compiler makes for x86-64.
 #   bindings/cross.sh aarch64|riscv64|armv7 ..      writes target/staticlib/PROCESSOR/libdoor.a for each
 #
-# The kit compiles for x86-64 alone: it hands LLVM's bitcode to the clang in its toolchain's folder. Here it is given a folder
-# of our own, links to the kit's files but for a bin/clang that keeps a copy of the module and then runs the kit's. That this
-# changes nothing is checked each time: the archive is that of 'rt staticlib door', and the module, read back from its text
-# and compiled in the same words, is the archive's object, byte for byte. Then the text is retargeted (retarget.awk), and
-# compiled by the kit's clang in the same words but for the target.
+# The library is made for x86-64 (bindings/library.sh): rattle hands LLVM's bitcode to the clang in the folder that --toolchain
+# names. Here rattle makes it once more, in rt's words but for that folder, which is our own: links to the kit's files but for
+# a bin/clang that keeps a copy of the module and then runs the kit's. That this changes nothing is checked each time: the
+# archive is that of bindings/library.sh, and the module, read back from its text and compiled in the same words, is the
+# archive's object, byte for byte. Then the text is retargeted (retarget.awk), and compiled by the kit's clang in the same
+# words but for the target.
 set -eu
 root=$(cd "$(dirname "$0")/.." && pwd)
 usage() {
@@ -25,24 +26,21 @@ stop() { # WHY
 
 cd "$root"
 work=$root/target/cross
-kit=$(dirname "$(dirname "$(rt doc)")")
-own=on/$(uname -m)
-clang=$kit/$own/toolchain/bin/clang
+kit=$(dirname "$(rt doc)")
+clang=$kit/toolchain/bin/clang
 [ -x "$clang" ] || stop "the kit has no clang at $clang"
 rm -rf "$work"
-mkdir -p "$work/kit/$own/toolchain/bin"
+mkdir -p "$work/toolchain/bin"
 
-# Links to whatever stands in the kit's folder WHERE, but for EXCEPT, which has been made here.
+# Links to whatever stands in the kit's folder WHERE, but for EXCEPT, which is made here.
 links() { # WHERE EXCEPT
     for file in "$kit/$1"/*; do
-        [ "${file##*/}" = "$2" ] || ln -s "$file" "$work/kit/$1/"
+        [ "${file##*/}" = "$2" ] || ln -s "$file" "$work/$1/"
     done
 }
-links . on
-links "$own" toolchain
-links "$own/toolchain" bin
-links "$own/toolchain/bin" clang
-cat >"$work/kit/$own/toolchain/bin/clang" <<END
+links toolchain bin
+links toolchain/bin clang
+cat >"$work/toolchain/bin/clang" <<END
 #!/bin/sh
 for word; do
     case \$word in *.bc) cp "\$word" "$work/module.bc" ;; esac
@@ -50,15 +48,30 @@ done
 printf '%s\n' "\$@" >"$work/words"
 exec "$clang" "\$@"
 END
-chmod +x "$work/kit/$own/toolchain/bin/clang"
+chmod +x "$work/toolchain/bin/clang"
 
-staticlib() { # LOG KIT
-    RATTLE_HOME=$2 rt staticlib door >"$work/$1.log" 2>&1 || { cat "$work/$1.log" >&2; stop "rt staticlib door failed"; }
+# What rt tells rattle of crates/door_c: the libraries that crates.txt lists for it, and where those find theirs.
+kept() { # ARCHIVE
+    archive=$1
+    set --
+    for crate in std $(sed -n 's/^door_c staticlib: *//p' crates.txt); do
+        made=$root/crates/$crate/out/rlib/$crate.rlib
+        [ -e "$made" ] || made=$kit/rlibs/$crate.rlib
+        set -- "$@" --extern "$crate=$made"
+    done
+    for made in "$root"/crates/*/out/rlib; do set -- "$@" -L "dependency=$made"; done
+    (cd crates/door_c && "$kit/bin/rattle" build --crate-name door_c src/lib.rt --crate-type staticlib --cpu x86-64 "$@" \
+        -L "dependency=$kit/rlibs" --antt-project "$kit/rattle/logic/antt-project.json" --logic-built "$kit/logic_built" \
+        --toolchain "$work/toolchain" -o "$archive")
 }
-staticlib plain "$kit"
-cp target/staticlib/libdoor.a "$work/plain.a"
-staticlib kept "$work/kit"
-cmp "$work/plain.a" target/staticlib/libdoor.a || stop "the archive is not that of a plain 'rt staticlib door'"
+
+logged() { # LOG COMMAND..
+    log=$work/$1.log && shift
+    "$@" >"$log" 2>&1 || { cat "$log" >&2; stop "$1 failed"; }
+}
+logged library bindings/library.sh
+logged kept kept "$work/kept.a"
+cmp target/staticlib/libdoor.a "$work/kept.a" || stop "the archive is not that of bindings/library.sh"
 [ -f "$work/module.bc" ] || stop "the kit's compiler handed no bitcode to clang"
 
 # The kit's own words, with this input and output, and a target where one is named.
@@ -83,10 +96,10 @@ compiled() { # INPUT OUTPUT [TRIPLE]
 "$clang" "$(grep '^--target=' "$work/words")" -S -emit-llvm -Xclang -disable-llvm-passes -x ir -o "$work/module.ll" \
     "$work/module.bc"
 compiled "$work/module.ll" "$work/again.o"
-ar=$kit/$own/toolchain/bin/llvm-ar
+ar=$kit/toolchain/bin/llvm-ar
 "$ar" p target/staticlib/libdoor.a >"$work/archived.o"
 cmp "$work/archived.o" "$work/again.o" || stop "the module's text, compiled again for x86-64, is not the archive's object"
-echo "cross: the archive is that of 'rt staticlib door', and its module's text gives the same object"
+echo "cross: the archive is that of bindings/library.sh, and its module's text gives the same object"
 
 cross() { # PROCESSOR
     case $1 in armv7) triple=armv7-unknown-linux-gnueabihf ;; *) triple=$1-unknown-linux-gnu ;; esac

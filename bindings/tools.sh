@@ -29,7 +29,7 @@ else
 fi
 
 case $processor in
-x86_64) library=$root/target/staticlib/libdoor.a makes='rt staticlib door' ;;
+x86_64) library=$root/target/staticlib/libdoor.a makes=bindings/library.sh ;;
 *) library=$root/target/staticlib/$processor/libdoor.a makes="bindings/cross.sh $processor" ;;
 esac
 

@@ -1,8 +1,8 @@
 /* Harupesat: the opening messages of an SSH service port, proved right from the wire to the record.
  *
- * The functions of crates/door, for C and whatever speaks C's calling convention. The static library is made by
+ * The exports of crates/door_c, for C and whatever speaks C's calling convention. The static library is made by
  *
- *     rt staticlib door          -> target/staticlib/libdoor.a            (x86-64)
+ *     bindings/library.sh        -> target/staticlib/libdoor.a            (x86-64)
  *     bindings/cross.sh aarch64  -> target/staticlib/aarch64/libdoor.a    (riscv64 and armv7 likewise)
  *
  * and wants no more than memcpy, memmove and memset.

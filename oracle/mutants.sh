@@ -2,7 +2,7 @@
 # What the comparison is worth: each wrong thing of the lists in mutants/ must be seen.
 #   oracle/mutants.sh                        the four below, one after the other
 #   oracle/mutants.sh text [FIRST]           the Rust's text changed, against the library, by the short run
-#   oracle/mutants.sh code [FIRST]           our code changed, unproved, over the recorded answers, by 'rt try replay'
+#   oracle/mutants.sh code [FIRST]           our code changed, unproved, over the recorded answers, by 'rt try'
 #   oracle/mutants.sh definitions [FIRST]    the model changed, against the oracle (20,000 of each family)
 #   oracle/mutants.sh library [FIRST]        the library with one byte changed, against the oracle, by the short run
 # Each is run with nothing changed first, and must pass. FIRST: from which of the list on, to go on with a run that was

@@ -26,7 +26,7 @@ fn main() {
 fn made() -> (&'static str, &'static str) {
     let armv7 = env::var("TARGET").is_ok_and(|target| target.starts_with("armv7"));
     match env::var("CARGO_CFG_TARGET_ARCH").as_deref() {
-        Ok("x86_64") => ("../../target/staticlib/libdoor.a", "rt staticlib door"),
+        Ok("x86_64") => ("../../target/staticlib/libdoor.a", "bindings/library.sh"),
         Ok("aarch64") => ("../../target/staticlib/aarch64/libdoor.a", "bindings/cross.sh aarch64"),
         Ok("riscv64") => ("../../target/staticlib/riscv64/libdoor.a", "bindings/cross.sh riscv64"),
         Ok("arm") if armv7 => ("../../target/staticlib/armv7/libdoor.a", "bindings/cross.sh armv7"),

@@ -9,22 +9,22 @@ pub struct Refusal {
 
 pub type Out<A> = Result<A, Refusal>;
 
-pub fn refuseAt<A>(n: u8, at: usize) -> Out<A> {
+pub fn refuse_at<A>(n: u8, at: usize) -> Out<A> {
     Err(Refusal { number: n, offset: at })
 }
 
 /// where no field is to blame, or the first
 pub fn refuse<A>(n: u8) -> Out<A> {
-    refuseAt(n, 0)
+    refuse_at(n, 0)
 }
 
 /// goes on where the test holds, else refuses with n
 pub fn guard(n: u8, test: bool) -> Out<()> {
-    guardAt(n, 0, test)
+    guard_at(n, 0, test)
 }
 
-pub fn guardAt(n: u8, at: usize, test: bool) -> Out<()> {
-    if test { Ok(()) } else { refuseAt(n, at) }
+pub fn guard_at(n: u8, at: usize, test: bool) -> Out<()> {
+    if test { Ok(()) } else { refuse_at(n, at) }
 }
 
 /// the same answer, whatever is refused in it being refused there

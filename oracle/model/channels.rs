@@ -1,6 +1,6 @@
 //! crates/channels/specs: Open; crates/layouts/specs: Types; crates/replies/specs: Confirmation, Failure
 
-use crate::answer::{Out, guard, guardAt};
+use crate::answer::{Out, guard, guard_at};
 use crate::put;
 use crate::wire::{At, Place, Run, end, here, string, word};
 
@@ -49,7 +49,7 @@ fn offer(c: At) -> Out<(Offer, At)> {
     let (sender, c1) = word(c)?;
     let (window, c2) = word(c1)?;
     let (most, c3) = word(c2)?;
-    guardAt(6, c2.at, most != 0)?;
+    guard_at(6, c2.at, most != 0)?;
     Ok((Offer { sender_channel: sender, initial_window_size: window, maximum_packet_size: most }, c3))
 }
 
@@ -78,43 +78,43 @@ fn tcpip(made: fn(TcpChannelInfo) -> ChannelType, c: At) -> Out<ChannelType> {
     exact(made(info), c4)
 }
 
-fn directStreamLocal(c: At) -> Out<ChannelType> {
+fn direct_stream_local(c: At) -> Out<ChannelType> {
     let (path, c1) = string(c)?;
     let (_, c2) = string(c1)?;
     let (_, c3) = word(c2)?;
     exact(DirectStreamLocal(path.place), c3)
 }
 
-fn forwardedStreamLocal(c: At) -> Out<ChannelType> {
+fn forwarded_stream_local(c: At) -> Out<ChannelType> {
     let (path, c1) = string(c)?;
     let (_, c2) = string(c1)?;
     exact(ForwardedStreamLocal(path.place), c2)
 }
 
-fn opensshType(t: Run, c: At) -> Out<ChannelType> {
+fn openssh_type(t: Run, c: At) -> Out<ChannelType> {
     match t.bytes {
-        b"direct-streamlocal@openssh.com" => directStreamLocal(c),
-        b"forwarded-streamlocal@openssh.com" => forwardedStreamLocal(c),
+        b"direct-streamlocal@openssh.com" => direct_stream_local(c),
+        b"forwarded-streamlocal@openssh.com" => forwarded_stream_local(c),
         b"auth-agent@openssh.com" => exact(AgentForward, c),
         _ => Ok(Unknown(t.place, c.at)),
     }
 }
 
-fn channelType(t: Run, c: At) -> Out<ChannelType> {
+fn channel_type(t: Run, c: At) -> Out<ChannelType> {
     match t.bytes {
         b"session" => exact(Session, c),
         b"x11" => x11(c),
         b"direct-tcpip" => tcpip(DirectTcpip, c),
         b"forwarded-tcpip" => tcpip(ForwardedTcpIp, c),
-        _ => opensshType(t, c),
+        _ => openssh_type(t, c),
     }
 }
 
-pub fn readOpen(b: &[u8]) -> Out<OpenChannelMessage> {
+pub fn read_open(b: &[u8]) -> Out<OpenChannelMessage> {
     guard(1, b.len() <= MOST_BODY)?;
     let (t, c1) = string(here(b, 0))?;
     let (o, c2) = offer(c1)?;
-    let typ = channelType(t, c2)?;
+    let typ = channel_type(t, c2)?;
     Ok(OpenChannelMessage {
         typ,
         recipient_channel: o.sender_channel,
@@ -123,7 +123,7 @@ pub fn readOpen(b: &[u8]) -> Out<OpenChannelMessage> {
     })
 }
 
-pub fn readConfirmation(b: &[u8]) -> Out<plain::Confirmation> {
+pub fn read_confirmation(b: &[u8]) -> Out<plain::Confirmation> {
     guard(1, b.len() <= MOST_BODY)?;
     let (recipient, c1) = word(here(b, 0))?;
     let (o, _) = offer(c1)?;
@@ -136,7 +136,7 @@ pub fn readConfirmation(b: &[u8]) -> Out<plain::Confirmation> {
 }
 
 /// "the rest of the body is handed back as it stands"
-pub fn restOf(t: ChannelType, b: &[u8]) -> &[u8] {
+pub fn rest_of(t: ChannelType, b: &[u8]) -> &[u8] {
     match t {
         Unknown(_, rest) => here(b, rest).left,
         _ => &[],
@@ -162,6 +162,6 @@ pub fn failure(recipient: u32, reason: u8, text: &[u8]) -> Out<Vec<u8>> {
     Ok(payload(recipient, reason, text))
 }
 
-pub fn unknownType(recipient: u32) -> Out<Vec<u8>> {
+pub fn unknown_type(recipient: u32) -> Out<Vec<u8>> {
     failure(recipient, 3, b"Unknown channel type")
 }

@@ -8,20 +8,20 @@ pub fn listed(name: Name, list: &[Name]) -> bool {
 }
 
 /// "the client's first name that the server lists"
-pub fn firstShared<'a>(client: &[Name<'a>], server: &[Name]) -> Option<Name<'a>> {
+pub fn first_shared<'a>(client: &[Name<'a>], server: &[Name]) -> Option<Name<'a>> {
     client.iter().copied().find(|name| listed(name, server))
 }
 
 /// at either end, over the own list and the peer's
 pub fn chosen<'a>(side: Side, own: &[Name<'a>], peer: &[Name<'a>]) -> Option<Name<'a>> {
     match side {
-        Side::Client => firstShared(own, peer),
-        Side::Server => firstShared(peer, own),
+        Side::Client => first_shared(own, peer),
+        Side::Server => first_shared(peer, own),
     }
 }
 
 /// "“Both first” holds if that is the first entry of each list."
-pub fn bothFirst(own: &[Name], peer: &[Name]) -> bool {
+pub fn both_first(own: &[Name], peer: &[Name]) -> bool {
     match (own, peer) {
         ([a, ..], [b, ..]) => a == b,
         _ => false,

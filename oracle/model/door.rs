@@ -1,10 +1,10 @@
 //! crates/kinds/specs/Kinds: names asked by the number of their kind. The structs that cross are src/ours.
 
 use crate::answer::{Out, guard, refuse};
-use crate::names::{Kind, count, numberOf, spelled};
+use crate::names::{Kind, count, number_of, spelled};
 use crate::preferred::{DEFAULT_CIPHER, DEFAULT_COMPRESSION, DEFAULT_KEX, DEFAULT_KEY, DEFAULT_MAC};
 
-fn kindOf(n: u8) -> Out<Kind> {
+fn kind_of(n: u8) -> Out<Kind> {
     match n {
         0 => Ok(Kind::Kex),
         1 => Ok(Kind::Key),
@@ -16,18 +16,18 @@ fn kindOf(n: u8) -> Out<Kind> {
     }
 }
 
-pub fn nameOf(kind: u8, number: u8) -> Out<Vec<u8>> {
-    let k = kindOf(kind)?;
+pub fn name_of(kind: u8, number: u8) -> Out<Vec<u8>> {
+    let k = kind_of(kind)?;
     guard(9, (number as usize) < count(k))?;
     Ok(spelled(k, number).to_vec())
 }
 
-pub fn namedOf(kind: u8, name: &[u8]) -> Out<Option<u8>> {
-    let k = kindOf(kind)?;
-    Ok(numberOf(k, name))
+pub fn named_of(kind: u8, name: &[u8]) -> Out<Option<u8>> {
+    let k = kind_of(kind)?;
+    Ok(number_of(k, name))
 }
 
-fn defaultOf(k: Kind) -> &'static [u8] {
+fn default_of(k: Kind) -> &'static [u8] {
     match k {
         Kind::Kex => DEFAULT_KEX,
         Kind::Key => DEFAULT_KEY,
@@ -38,7 +38,7 @@ fn defaultOf(k: Kind) -> &'static [u8] {
     }
 }
 
-pub fn defaultList(kind: u8) -> Out<Vec<u8>> {
-    let k = kindOf(kind)?;
-    Ok(defaultOf(k).to_vec())
+pub fn default_list(kind: u8) -> Out<Vec<u8>> {
+    let k = kind_of(kind)?;
+    Ok(default_of(k).to_vec())
 }

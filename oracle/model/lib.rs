@@ -3,7 +3,6 @@
 //! oracle agree, that is evidence about the definitions. The proved code is compared with both by src/compare.
 //!
 //! Where a refusal stands, which the Rust does not say, is written from document 02 (No. 6), not from the definitions.
-#![allow(non_snake_case)]
 
 pub mod answer;
 pub mod channels;

@@ -63,7 +63,7 @@ static CERTIFICATE: LazyLock<Vec<&'static str>> =
     LazyLock::new(|| KEY.iter().map(|n| &*format!("{n}-cert-v01@openssh.com").leak()).collect());
 
 /// the names of a kind
-pub fn namesOf(k: Kind) -> &'static [&'static str] {
+pub fn names_of(k: Kind) -> &'static [&'static str] {
     match k {
         Kind::Kex => KEX,
         Kind::Key => KEY,
@@ -75,16 +75,16 @@ pub fn namesOf(k: Kind) -> &'static [&'static str] {
 }
 
 pub fn count(k: Kind) -> usize {
-    namesOf(k).len()
+    names_of(k).len()
 }
 
 /// "The ctr and cbc names need a MAC"
-pub fn needMac(n: u8) -> bool {
+pub fn need_mac(n: u8) -> bool {
     CIPHER[n as usize].contains("ctr") || CIPHER[n as usize].contains("cbc")
 }
 
 /// "gcm and chacha20 have built-in integrity"
-pub fn builtIn(n: u8) -> bool {
+pub fn built_in(n: u8) -> bool {
     CIPHER[n as usize].contains("gcm") || CIPHER[n as usize].contains("chacha20")
 }
 
@@ -93,20 +93,20 @@ fn flag(test: fn(u8) -> bool, n: u8) -> Out<bool> {
     Ok(test(n))
 }
 
-pub fn needsMac(n: u8) -> Out<bool> {
-    flag(needMac, n)
+pub fn needs_mac(n: u8) -> Out<bool> {
+    flag(need_mac, n)
 }
 
-pub fn builtInIntegrity(n: u8) -> Out<bool> {
-    flag(builtIn, n)
+pub fn built_in_integrity(n: u8) -> Out<bool> {
+    flag(built_in, n)
 }
 
 /// a name's number in its kind
-pub fn numberOf(k: Kind, name: &[u8]) -> Option<u8> {
-    namesOf(k).iter().position(|m| m.as_bytes() == name).map(|n| n as u8)
+pub fn number_of(k: Kind, name: &[u8]) -> Option<u8> {
+    names_of(k).iter().position(|m| m.as_bytes() == name).map(|n| n as u8)
 }
 
 /// the name of a number of a kind (a valid one)
 pub fn spelled(k: Kind, n: u8) -> &'static [u8] {
-    namesOf(k)[n as usize].as_bytes()
+    names_of(k)[n as usize].as_bytes()
 }

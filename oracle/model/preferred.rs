@@ -12,37 +12,37 @@ fn below(count: usize, ns: &[u8]) -> bool {
     ns.iter().all(|&n| (n as usize) < count)
 }
 
-fn goodList(k: Kind, ns: &[u8]) -> bool {
+fn good_list(k: Kind, ns: &[u8]) -> bool {
     ns.len() <= MOST_ENTRIES && below(count(k), ns)
 }
 
-fn goodRowTable(ks: &[u8], ids: &[u32]) -> bool {
+fn good_row_table(ks: &[u8], ids: &[u32]) -> bool {
     ks.len() == ids.len() && ks.len() <= MOST_ROWS && below(KINDS, ks)
 }
 
-fn eachKeyRow(f: impl Fn(u8, u32) -> bool, ks: &[u8], ids: &[u32]) -> bool {
+fn each_key_row(f: impl Fn(u8, u32) -> bool, ks: &[u8], ids: &[u32]) -> bool {
     ks.iter().zip(ids).all(|(&k, &i)| f(k, i))
 }
 
 /// no row of the second table has the identity of this row but another kind
 fn agrees(k: u8, id: u32, ks: &[u8], ids: &[u32]) -> bool {
-    eachKeyRow(|l, i| i != id || l == k, ks, ids)
+    each_key_row(|l, i| i != id || l == k, ks, ids)
 }
 
 fn consistent(ks: &[u8], ids: &[u32], ks2: &[u8], ids2: &[u32]) -> bool {
-    eachKeyRow(|k, i| agrees(k, i, ks2, ids2), ks, ids)
+    each_key_row(|k, i| agrees(k, i, ks2, ids2), ks, ids)
 }
 
 /// what is not refused with 9
 pub fn valid(t: &Tables) -> bool {
-    goodList(Kind::Kex, &t.kex)
-        && goodList(Kind::Key, &t.key)
-        && goodList(Kind::Certificate, &t.certificate)
-        && goodList(Kind::Cipher, &t.cipher)
-        && goodList(Kind::Mac, &t.mac)
-        && goodList(Kind::Compression, &t.compression)
-        && goodRowTable(&t.key_kinds, &t.key_ids)
-        && goodRowTable(&t.cert_kinds, &t.cert_ids)
+    good_list(Kind::Kex, &t.kex)
+        && good_list(Kind::Key, &t.key)
+        && good_list(Kind::Certificate, &t.certificate)
+        && good_list(Kind::Cipher, &t.cipher)
+        && good_list(Kind::Mac, &t.mac)
+        && good_list(Kind::Compression, &t.compression)
+        && good_row_table(&t.key_kinds, &t.key_ids)
+        && good_row_table(&t.cert_kinds, &t.cert_ids)
         && consistent(&t.key_kinds, &t.key_ids, &t.key_kinds, &t.key_ids)
         && consistent(&t.key_kinds, &t.key_ids, &t.cert_kinds, &t.cert_ids)
         && consistent(&t.cert_kinds, &t.cert_ids, &t.cert_kinds, &t.cert_ids)
@@ -56,7 +56,7 @@ fn extensions(side: Side) -> [u8; 2] {
     }
 }
 
-pub fn strictName(side: Side) -> u8 {
+pub fn strict_name(side: Side) -> u8 {
     extensions(side)[1]
 }
 
@@ -69,26 +69,26 @@ fn names(k: Kind, ns: &[u8]) -> Vec<Name<'static>> {
 }
 
 /// "A server's kex list drops ext-info-c and kex-strict-c; a client's drops the -s pair."
-pub fn kexWritten(t: &Tables) -> Vec<Name<'static>> {
+pub fn written_kex(t: &Tables) -> Vec<Name<'static>> {
     names(Kind::Kex, &without(&extensions(t.side.other()), &t.kex))
 }
 
 /// the extension names are removed from the own list, and from that alone (C1)
-pub fn kexChosen(t: &Tables) -> Vec<Name<'static>> {
+pub fn chosen_kex(t: &Tables) -> Vec<Name<'static>> {
     names(Kind::Kex, &without(&[extensions(Side::Client), extensions(Side::Server)].concat(), &t.kex))
 }
 
 /// "every RSA name goes with an RSA key"
-fn kindOf(n: u8) -> u8 {
+fn kind_of(n: u8) -> u8 {
     n.min(4)
 }
 
-fn ofKind(k: u8, key: &[u8]) -> Vec<u8> {
-    key.iter().copied().filter(|&n| kindOf(n) == k).collect()
+fn of_kind(k: u8, key: &[u8]) -> Vec<u8> {
+    key.iter().copied().filter(|&n| kind_of(n) == k).collect()
 }
 
 fn held(kinds: &[u8], key: &[u8]) -> Vec<u8> {
-    key.iter().copied().filter(|&n| kinds.contains(&kindOf(n))).collect()
+    key.iter().copied().filter(|&n| kinds.contains(&kind_of(n))).collect()
 }
 
 /// "for each certificate row with a key row of equal identity, in row order, the preferred key names of its kind [..]
@@ -97,7 +97,7 @@ fn certificates(t: &Tables) -> Vec<u8> {
     let mut made = Vec::new();
     for (&k, id) in t.cert_kinds.iter().zip(&t.cert_ids) {
         if t.key_ids.contains(id) {
-            for n in ofKind(k, &t.key) {
+            for n in of_kind(k, &t.key) {
                 if !made.contains(&n) {
                     made.push(n);
                 }
@@ -107,7 +107,7 @@ fn certificates(t: &Tables) -> Vec<u8> {
     made
 }
 
-pub fn keyList(t: &Tables) -> Vec<Name<'static>> {
+pub fn key_list(t: &Tables) -> Vec<Name<'static>> {
     let (certificate, key) = match t.side {
         Side::Client => (t.certificate.clone(), t.key.clone()),
         Side::Server => (certificates(t), held(&t.key_kinds, &t.key)),
@@ -115,15 +115,15 @@ pub fn keyList(t: &Tables) -> Vec<Name<'static>> {
     [names(Kind::Certificate, &certificate), names(Kind::Key, &key)].concat()
 }
 
-pub fn cipherList(t: &Tables) -> Vec<Name<'static>> {
+pub fn cipher_list(t: &Tables) -> Vec<Name<'static>> {
     names(Kind::Cipher, &t.cipher)
 }
 
-pub fn macList(t: &Tables) -> Vec<Name<'static>> {
+pub fn mac_list(t: &Tables) -> Vec<Name<'static>> {
     names(Kind::Mac, &t.mac)
 }
 
-pub fn compressionList(t: &Tables) -> Vec<Name<'static>> {
+pub fn compression_list(t: &Tables) -> Vec<Name<'static>> {
     names(Kind::Compression, &t.compression)
 }
 

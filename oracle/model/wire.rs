@@ -1,6 +1,6 @@
 //! crates/commas/specs: Cut; crates/wire/specs: Fields, Walk, Shown; crates/namelist/specs: Judged
 
-use crate::answer::{Out, guard, guardAt, placed};
+use crate::answer::{Out, guard, guard_at, placed};
 use crate::text::{ascii, utf8};
 
 pub type Name<'a> = &'a [u8];
@@ -45,14 +45,14 @@ pub fn byte(c: At) -> Out<(u8, At)> {
     })
 }
 
-pub fn bigEndian(s: &[u8]) -> u32 {
+pub fn big_endian(s: &[u8]) -> u32 {
     ((s[0] as u32 * 256 + s[1] as u32) * 256 + s[2] as u32) * 256 + s[3] as u32
 }
 
 pub fn word(c: At) -> Out<(u32, At)> {
     field(c, |c| {
         guard(2, 4 <= c.left.len())?;
-        Ok((bigEndian(c.left), skip(4, c)))
+        Ok((big_endian(c.left), skip(4, c)))
     })
 }
 
@@ -75,7 +75,7 @@ pub fn string(c: At) -> Out<(Run, At)> {
 
 /// 5 is at the first byte that is too much
 pub fn end(c: At) -> Out<()> {
-    guardAt(5, c.at, c.left.is_empty())
+    guard_at(5, c.at, c.left.is_empty())
 }
 
 /// The names of a list: cut at each comma; one comma at the very end ends the last name and starts none (C3).
@@ -109,17 +109,17 @@ fn judged(names: &[Name]) -> Out<()> {
     Ok(())
 }
 
-fn judgedList(s: &[u8]) -> Out<()> {
+fn judged_list(s: &[u8]) -> Out<()> {
     guard(3, utf8(s))?;
     judged(&cut(s))
 }
 
 /// a name-list: the string, then its length, then its bytes (C7); one field, whichever of its names offends
-pub fn nameList(c: At) -> Out<(Run, At)> {
+pub fn name_list(c: At) -> Out<(Run, At)> {
     field(c, |c| {
         let (t, c1) = run(c)?;
         guard(2, t.bytes.len() <= MOST_BYTES)?;
-        judgedList(t.bytes)?;
+        judged_list(t.bytes)?;
         Ok((t, c1))
     })
 }

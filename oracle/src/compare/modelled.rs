@@ -38,7 +38,7 @@ fn opening(b: &[u8], m: mc::OpenChannelMessage) -> Opening {
             mc::ChannelType::ForwardedStreamLocal(path) => ChannelType::ForwardedStreamLocal { path: shown(b, path) },
             mc::ChannelType::AgentForward => ChannelType::AgentForward,
             mc::ChannelType::Unknown(typ, _) => {
-                ChannelType::Unknown { typ: shown(b, typ), rest: mc::restOf(m.typ, b).to_vec() }
+                ChannelType::Unknown { typ: shown(b, typ), rest: mc::rest_of(m.typ, b).to_vec() }
             }
         },
         recipient_channel: m.recipient_channel,
@@ -59,19 +59,19 @@ fn read(bytes: &[u8], read: framing::Read) -> Read {
 pub fn case(case: &Case) -> Answer {
     match case {
         Case::ReadKex { tables, strict_agreed, payload } => {
-            Answer::Names(read_out(negotiation::readKex(tables, *strict_agreed, payload)))
+            Answer::Names(read_out(negotiation::read_kex(tables, *strict_agreed, payload)))
         }
-        Case::WriteKex { tables, cookie } => Answer::Bytes(out(negotiation::writeKex(tables, cookie))),
+        Case::WriteKex { tables, cookie } => Answer::Bytes(out(negotiation::write_kex(tables, cookie))),
         Case::FrameRead { bytes, counters } => {
-            Answer::Read(read_out(framing::readPacket(bytes, *counters)).map(|r| read(bytes, r)))
+            Answer::Read(read_out(framing::read_packet(bytes, *counters)).map(|r| read(bytes, r)))
         }
         Case::FrameWrite { payload, counters } => Answer::Sealed(
-            out(framing::packetOf(payload)).map(|packet| (packet, framing::counted(payload.len(), *counters))),
+            out(framing::packet_of(payload)).map(|packet| (packet, framing::counted(payload.len(), *counters))),
         ),
-        Case::Open { body } => Answer::Open(read_out(mc::readOpen(body)).map(|m| opening(body, m))),
-        Case::Confirmation { body } => Answer::Confirmation(read_out(mc::readConfirmation(body))),
+        Case::Open { body } => Answer::Open(read_out(mc::read_open(body)).map(|m| opening(body, m))),
+        Case::Confirmation { body } => Answer::Confirmation(read_out(mc::read_confirmation(body))),
         Case::Fail { recipient, reason, text } => Answer::Bytes(out(mc::failure(*recipient, *reason, text))),
-        Case::UnknownType { recipient } => Answer::Bytes(out(mc::unknownType(*recipient))),
+        Case::UnknownType { recipient } => Answer::Bytes(out(mc::unknown_type(*recipient))),
     }
 }
 
@@ -84,24 +84,24 @@ fn lent(room: usize, what: model::answer::Out<Vec<u8>>) -> Out<Vec<u8>> {
 
 pub fn named(named: &Named) -> Answer {
     Answer::Bytes(match named {
-        Named::Spelling { kind, number, room } => lent(*room, door::nameOf(*kind, *number)),
-        Named::Lookup { kind, name } => out(door::namedOf(*kind, name)).map(|number| number.into_iter().collect()),
-        Named::NeedsMac { cipher } => out(names::needsMac(*cipher)).map(|flag| vec![flag as u8]),
-        Named::BuiltInIntegrity { cipher } => out(names::builtInIntegrity(*cipher)).map(|flag| vec![flag as u8]),
-        Named::DefaultList { kind, room } => lent(*room, door::defaultList(*kind)),
+        Named::Spelling { kind, number, room } => lent(*room, door::name_of(*kind, *number)),
+        Named::Lookup { kind, name } => out(door::named_of(*kind, name)).map(|number| number.into_iter().collect()),
+        Named::NeedsMac { cipher } => out(names::needs_mac(*cipher)).map(|flag| vec![flag as u8]),
+        Named::BuiltInIntegrity { cipher } => out(names::built_in_integrity(*cipher)).map(|flag| vec![flag as u8]),
+        Named::DefaultList { kind, room } => lent(*room, door::default_list(*kind)),
     })
 }
 
 fn writing(case: &Case, room: usize) -> Answer {
     let sealed = |payload: &[u8], k: Counters| {
-        let packet = lent(room, framing::packetOf(payload))?;
+        let packet = lent(room, framing::packet_of(payload))?;
         Ok((packet, framing::counted(payload.len(), k)))
     };
     match case {
-        Case::WriteKex { tables, cookie } => Answer::Bytes(lent(room, negotiation::writeKex(tables, cookie))),
+        Case::WriteKex { tables, cookie } => Answer::Bytes(lent(room, negotiation::write_kex(tables, cookie))),
         Case::FrameWrite { payload, counters } => Answer::Sealed(sealed(payload, *counters)),
         Case::Fail { recipient, reason, text } => Answer::Bytes(lent(room, mc::failure(*recipient, *reason, text))),
-        Case::UnknownType { recipient } => Answer::Bytes(lent(room, mc::unknownType(*recipient))),
+        Case::UnknownType { recipient } => Answer::Bytes(lent(room, mc::unknown_type(*recipient))),
         _ => unreachable!("a reader has no out"),
     }
 }
@@ -117,7 +117,7 @@ fn parts(b: &[u8], t: mc::ChannelType) -> [(usize, usize); 3] {
         mc::ChannelType::DirectStreamLocal(path) | mc::ChannelType::ForwardedStreamLocal(path) => {
             [place(path), (0, 0), (0, 0)]
         }
-        mc::ChannelType::Unknown(typ, rest) => [place(typ), (0, 0), (rest, mc::restOf(t, b).len())],
+        mc::ChannelType::Unknown(typ, rest) => [place(typ), (0, 0), (rest, mc::rest_of(t, b).len())],
         mc::ChannelType::Session | mc::ChannelType::AgentForward => [(0, 0); 3],
     }
 }
@@ -129,11 +129,11 @@ pub fn encoded(places: &[(usize, usize)]) -> Vec<u8> {
 
 fn places(case: &Case) -> Out<Vec<u8>> {
     match case {
-        Case::FrameRead { bytes, counters } => read_out(framing::readPacket(bytes, *counters)).map(|read| match read {
+        Case::FrameRead { bytes, counters } => read_out(framing::read_packet(bytes, *counters)).map(|read| match read {
             framing::Read::Need(_) => encoded(&[(0, 0)]),
             framing::Read::Packet(p) => encoded(&[(p.payload.start, p.payload.len)]),
         }),
-        Case::Open { body } => read_out(mc::readOpen(body)).map(|m| encoded(&parts(body, m.typ))),
+        Case::Open { body } => read_out(mc::read_open(body)).map(|m| encoded(&parts(body, m.typ))),
         _ => unreachable!("places are asked of packets and messages alone"),
     }
 }
@@ -143,7 +143,7 @@ pub fn beyond(beyond: &Beyond) -> Answer {
         Beyond::Reading(c) | Beyond::Offset(c) => case(c),
         Beyond::Places(c) => Answer::Bytes(places(c)),
         Beyond::Writing { case, room } => writing(case, *room),
-        Beyond::Cookie { tables, cookie, room } => Answer::Bytes(lent(*room, negotiation::writeKex(tables, cookie))),
+        Beyond::Cookie { tables, cookie, room } => Answer::Bytes(lent(*room, negotiation::write_kex(tables, cookie))),
         Beyond::Show { bytes, start, len } => {
             Answer::Bytes(read_out(wire::shown(bytes, Place { start: *start, len: *len })).map(|part| part.to_vec()))
         }

@@ -13,9 +13,10 @@ pub fn emptied(s: &Setting) -> PathBuf {
     work
 }
 
+/// Copies a folder, but for what `rt` keeps in a crate's out/.
 pub fn copy(from: &Path, to: &Path) {
     fs::create_dir_all(to).expect("a folder");
-    for entry in fs::read_dir(from).expect("a folder to copy").flatten() {
+    for entry in fs::read_dir(from).expect("a folder to copy").flatten().filter(|entry| entry.file_name() != "out") {
         let (path, target) = (entry.path(), to.join(entry.file_name()));
         if path.is_dir() {
             copy(&path, &target);

@@ -73,7 +73,7 @@ pub fn library(s: &Setting, m: &Mutant) -> Vec<Seen> {
 pub fn code(s: &Setting, m: &Mutant) -> Seen {
     let work = repository(s);
     m.apply(&work);
-    match replayed(&work) {
+    match replayed(work) {
         Ok(Some(found)) => Seen { caught: true, how: format!(" | {found}") },
         Ok(None) => Seen { caught: false, how: String::new() },
         Err(why) => Seen { caught: false, how: format!(" | {why}") },
@@ -83,7 +83,7 @@ pub fn code(s: &Setting, m: &Mutant) -> Seen {
 /// The same with nothing changed, which must pass: else a slip would be seen for another reason.
 pub fn unchanged(s: &Setting, kind: &str) {
     if kind == "code" {
-        return assert_eq!(replayed(&repository(s)), Ok(None), "the replay with nothing changed");
+        return assert_eq!(replayed(repository(s)), Ok(None), "the replay with nothing changed");
     }
     let run = run(s, &s.target.join("compare"), if kind == "definitions" { "model" } else { "library" });
     if !run.status.success() {
@@ -97,28 +97,32 @@ fn libdoor() -> String {
     std::env::var("LIBDOOR").expect("LIBDOOR")
 }
 
-/// A copy of the crates.
+/// A copy of the crates, outside the repository: the gate lets no code stand in it but in crates/.
 fn repository(s: &Setting) -> PathBuf {
-    let (work, repository) = (emptied(s), s.oracle.join(".."));
+    let work = std::env::temp_dir().join(format!("harupesat-mutant-{}", std::process::id()));
+    let _ = fs::remove_dir_all(&work);
+    let repository = s.oracle.join("..");
     copy(&repository.join("crates"), &work.join("crates"));
     fs::copy(repository.join("crates.txt"), work.join("crates.txt")).expect("crates.txt");
     work
 }
 
-/// The first answer that is not the recorded one; an error, if it was not run to its end. What the program writes is held to
-/// its file stdout, compiled as the library is, at -O3. The other ways in which `rt try` compiles it may take longer than it
-/// waits, and say nothing here.
-fn replayed(work: &Path) -> Result<Option<String>, String> {
-    let run = Command::new("rt").args(["try", "replay"]).current_dir(work).output().expect("rt runs");
-    let text = [&run.stdout[..], &run.stderr[..]].concat();
-    let text = String::from_utf8_lossy(&text);
-    let compiled = text.split_once("at -O3 ").map_or("", |(_, after)| after);
-    if !compiled.starts_with("ended") {
-        return Err(format!("not run, or not to its end: {text}"));
+/// The first answer that is not the recorded one; an error, if it was not run to its end. What the program writes, as `rt try`
+/// compiles it, is held to its file stdout. The copy is gone then.
+fn replayed(work: PathBuf) -> Result<Option<String>, String> {
+    let folder = work.join("crates/replay");
+    let expected = fs::read_to_string(folder.join("stdout")).expect("what the program must write");
+    let words = ["try", "--data", "answers=data/answers", "--", "answers"];
+    let run = Command::new("rt").args(words).current_dir(folder).output().expect("rt runs");
+    fs::remove_dir_all(work).expect("the copy is removed");
+    let said = String::from_utf8_lossy(&run.stderr);
+    if !said.lines().any(|line| line.starts_with("run=ended status=0 ")) {
+        return Err(format!("not run, or not to its end: {said}"));
     }
-    if compiled.starts_with("ended and wrote what is expected") {
+    let wrote = String::from_utf8_lossy(&run.stdout);
+    if wrote == expected {
         return Ok(None);
     }
-    let found = compiled.split_once("found \"").map_or("", |(_, found)| found.split("\\n").next().unwrap_or_default());
-    Ok(Some(found.replace("\\\"", "\"").replace("\\\\", "\\").chars().take(90).collect()))
+    let mut differs = wrote.lines().zip(expected.lines()).filter(|(found, wanted)| found != wanted);
+    Ok(Some(differs.next().map_or("another end", |(found, _)| found).chars().take(90).collect()))
 }
