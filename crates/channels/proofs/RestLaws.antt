@@ -10,21 +10,7 @@ use Rattle.layouts.specs.declared.ChannelType.{ChannelType}
 use Rattle.layouts.specs.declared.ChannelType.TheVariants.{Session, X11, DirectTcpip, DirectStreamLocal, ForwardedTcpIp, ForwardedStreamLocal, AgentForward, Unknown}
 use Rattle.channels.specs.Open.{rest_of}
 
--- the places of the known types among the variants
-abbrev known : List ℕ
-known = 0 ∷ 1 ∷ 2 ∷ 3 ∷ 4 ∷ 5 ∷ 6 ∷ []
-
-pub known_rest : (t : ChannelType) → OneOf known (tag_of the_type t) → ◌≡◌ {A = Place} (record { start = 0; len = 0 }) (rest_of t)
-known_rest Session k = refl
-known_rest (X11 address port) k = refl
-known_rest (DirectTcpip info) k = refl
-known_rest (DirectStreamLocal info) k = refl
-known_rest (ForwardedTcpIp info) k = refl
-known_rest (ForwardedStreamLocal info) k = refl
-known_rest AgentForward k = refl
-known_rest (Unknown typ rest) k = absurd (miss known 7 tt k)
-
--- the same, where a match's last arm says only what the type is not
+-- of a type that is not the unknown one, as the last arm of a match says it
 pub rest_of_known : (t : ChannelType) → ((p rest : Place) → t ≡ Unknown p rest → ⊥) → ◌≡◌ {A = Place} (record { start = 0; len = 0 }) (rest_of t)
 rest_of_known Session k = refl
 rest_of_known (X11 address port) k = refl
@@ -34,6 +20,14 @@ rest_of_known (ForwardedTcpIp info) k = refl
 rest_of_known (ForwardedStreamLocal info) k = refl
 rest_of_known AgentForward k = refl
 rest_of_known (Unknown typ rest) k = absurd (k typ rest refl)
+
+-- the places of the known types among the variants
+abbrev known : List ℕ
+known = 0 ∷ 1 ∷ 2 ∷ 3 ∷ 4 ∷ 5 ∷ 6 ∷ []
+
+-- the same, where it is said by the places
+pub known_rest : (t : ChannelType) → OneOf known (tag_of the_type t) → ◌≡◌ {A = Place} (record { start = 0; len = 0 }) (rest_of t)
+known_rest t k = rest_of_known t (λ p rest e. absurd (miss known 7 tt (rw e at k)))
 
 pub unknown_rest : (t : ChannelType) (p rest : Place) → t ≡ Unknown p rest → rest ≡ rest_of t
 unknown_rest t p rest e = rw e

@@ -6,4 +6,8 @@ use Rattle.kexinit.proofs.put_head.Goals as goal
 pub returns : goal.returns
 unfolding head
 returns c =
-    record { next = (run_more _ _ _ _ _ _ (c.put_u8.ensures.answer, c.put_u8.ensures.bytes) c.after-p.ensures _ _ _ (run_more _ _ _ _ _ _ (c.put_bytes.ensures.answer, c.put_bytes.ensures.bytes) c.after-q.ensures _ _ _ (run_both _ _ _ _ _ _ _ _ (c.put_list-s.ensures.next, c.put_list-s.ensures.bytes) (c.put_list.ensures.next, c.put_list.ensures.bytes)))).0; bytes = (run_more _ _ _ _ _ _ (c.put_u8.ensures.answer, c.put_u8.ensures.bytes) c.after-p.ensures _ _ _ (run_more _ _ _ _ _ _ (c.put_bytes.ensures.answer, c.put_bytes.ensures.bytes) c.after-q.ensures _ _ _ (run_both _ _ _ _ _ _ _ _ (c.put_list-s.ensures.next, c.put_list-s.ensures.bytes) (c.put_list.ensures.next, c.put_list.ensures.bytes)))).1 }
+    let both = run_more _ _ _ _ _ _ (c.put_u8.ensures.answer, c.put_u8.ensures.bytes) c.after-p.ensures _ _ _
+    (run_more _ _ _ _ _ _ (c.put_bytes.ensures.answer, c.put_bytes.ensures.bytes) c.after-q.ensures _ _ _
+    (run_both _ _ _ _ _ _ _ _ (c.put_list-s.ensures.next, c.put_list-s.ensures.bytes)
+    (c.put_list.ensures.next, c.put_list.ensures.bytes))) in
+    record { next = both.0; bytes = both.1 }

@@ -5,4 +5,7 @@ use Rattle.kexinit.proofs.put_twice.Goals as goal
 
 pub returns : goal.returns
 unfolding twice
-returns c = record { next = (run_both _ _ _ _ _ _ _ _ (c.put_list-p.ensures.next, c.put_list-p.ensures.bytes) (c.put_list.ensures.next, c.put_list.ensures.bytes)).0; bytes = (run_both _ _ _ _ _ _ _ _ (c.put_list-p.ensures.next, c.put_list-p.ensures.bytes) (c.put_list.ensures.next, c.put_list.ensures.bytes)).1 }
+returns c =
+    let both = run_both _ _ _ _ _ _ _ _ (c.put_list-p.ensures.next, c.put_list-p.ensures.bytes)
+    (c.put_list.ensures.next, c.put_list.ensures.bytes) in
+    record { next = both.0; bytes = both.1 }

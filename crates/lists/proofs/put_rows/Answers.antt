@@ -7,19 +7,38 @@ use Rattle.lists.proofs.ListLaws.{list_unnamed, list_long, is_length, list_full,
 use Rattle.lists.proofs.put_rows.Goals as goal
 
 pub returns-then-not-known : goal.returns-then-not-known
-returns-then-not-known c = record { answer = (refused_put _ _ _ 9 (list_unnamed _ _ _ _ _ c.known.ensures (ap not c.if-not-known.true))).0; bytes = (refused_put _ _ _ 9 (list_unnamed _ _ _ _ _ c.known.ensures (ap not c.if-not-known.true))).1 }
+returns-then-not-known c =
+    let both = refused_put _ _ _ 9 (list_unnamed _ _ _ _ _ c.known.ensures (ap not c.if-not-known.true)) in
+    record { answer = both.0; bytes = both.1 }
 
 pub returns-then-total-ge-MOST : goal.returns-then-total-ge-MOST
-returns-then-total-ge-MOST c = record { answer = (refused_put _ _ _ 1 (list_long _ _ _ _ _ c.known.ensures (ap not c.if-not-known.false) _ c.size-total.ensures c.if-total-ge-MOST.true)).0; bytes = (refused_put _ _ _ 1 (list_long _ _ _ _ _ c.known.ensures (ap not c.if-not-known.false) _ c.size-total.ensures c.if-total-ge-MOST.true)).1 }
+returns-then-total-ge-MOST c =
+    let both = refused_put _ _ _ 1 (list_long _ _ _ _ _ c.known.ensures (ap not c.if-not-known.false)
+    _ c.size-total.ensures c.if-total-ge-MOST.true) in
+    record { answer = both.0; bytes = both.1 }
 
 pub returns-then-out-at : goal.returns-then-out-at
-returns-then-out-at c = record { answer = (list_full _ _ _ _ _ c.known.ensures (ap not c.if-not-known.false) _ c.size-total.ensures c.if-total-ge-MOST.false _ c.less-len.ensures _ _ (omega arith)).0; bytes = (list_full _ _ _ _ _ c.known.ensures (ap not c.if-not-known.false) _ c.size-total.ensures c.if-total-ge-MOST.false _ c.less-len.ensures _ _ (omega arith)).1 }
+returns-then-out-at c =
+    let both = list_full _ _ _ _ _ c.known.ensures (ap not c.if-not-known.false)
+    _ c.size-total.ensures c.if-total-ge-MOST.false _ c.less-len.ensures _ _ (omega arith) in
+    record { answer = both.0; bytes = both.1 }
 
 pub returns-then-out-at-2 : goal.returns-then-out-at-2
-returns-then-out-at-2 c = record { answer = (list_full _ _ _ _ _ c.known.ensures (ap not c.if-not-known.false) _ c.size-total.ensures c.if-total-ge-MOST.false _ c.less-len.ensures _ _ (omega arith)).0; bytes = (list_full _ _ _ _ _ c.known.ensures (ap not c.if-not-known.false) _ c.size-total.ensures c.if-total-ge-MOST.false _ c.less-len.ensures _ _ (omega arith)).1 }
+returns-then-out-at-2 c =
+    let both = list_full _ _ _ _ _ c.known.ensures (ap not c.if-not-known.false)
+    _ c.size-total.ensures c.if-total-ge-MOST.false _ c.less-len.ensures _ _ (omega arith) in
+    record { answer = both.0; bytes = both.1 }
 
 pub store_list-requires : goal.store_list-requires
-store_list-requires c = omega (arith, is_length _ _ _ _ _ c.known.ensures (ap not c.if-not-known.false) _ c.size-total.ensures c.if-total-ge-MOST.false _ c.less-len.ensures)
+store_list-requires c = omega (
+  arith,
+  is_length _ _ _ _ _ c.known.ensures (ap not c.if-not-known.false)
+      _ c.size-total.ensures c.if-total-ge-MOST.false _ c.less-len.ensures,
+)
 
 pub returns : goal.returns
-returns c = record { answer = (list_put _ _ _ _ _ c.known.ensures (ap not c.if-not-known.false) _ c.size-total.ensures c.if-total-ge-MOST.false _ c.less-len.ensures _ _ _ _ (omega arith) (c.store_list.ensures.next, c.store_list.ensures.bytes)).0; bytes = (list_put _ _ _ _ _ c.known.ensures (ap not c.if-not-known.false) _ c.size-total.ensures c.if-total-ge-MOST.false _ c.less-len.ensures _ _ _ _ (omega arith) (c.store_list.ensures.next, c.store_list.ensures.bytes)).1 }
+returns c =
+    let both = list_put _ _ _ _ _ c.known.ensures (ap not c.if-not-known.false)
+    _ c.size-total.ensures c.if-total-ge-MOST.false _ c.less-len.ensures _ _ _ _ (omega arith)
+    (c.store_list.ensures.next, c.store_list.ensures.bytes) in
+    record { answer = both.0; bytes = both.1 }

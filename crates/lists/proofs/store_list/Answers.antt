@@ -6,4 +6,7 @@ pub store_names-requires : goal.store_names-requires
 store_names-requires c = tail_room _ _ _ _ c.requires _ _ _ (c.put_u32.ensures.answer, c.put_u32.ensures.bytes) c.after-p.ensures
 
 pub returns : goal.returns
-returns c = record { next = (list_whole _ _ _ _ c.requires _ _ _ (c.put_u32.ensures.answer, c.put_u32.ensures.bytes) c.after-p.ensures _ _ (c.store_names.ensures.next, c.store_names.ensures.bytes)).0; bytes = (list_whole _ _ _ _ c.requires _ _ _ (c.put_u32.ensures.answer, c.put_u32.ensures.bytes) c.after-p.ensures _ _ (c.store_names.ensures.next, c.store_names.ensures.bytes)).1 }
+returns c =
+    let both = list_whole _ _ _ _ c.requires _ _ _ (c.put_u32.ensures.answer, c.put_u32.ensures.bytes) c.after-p.ensures _ _
+    (c.store_names.ensures.next, c.store_names.ensures.bytes) in
+    record { next = both.0; bytes = both.1 }

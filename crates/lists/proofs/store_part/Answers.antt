@@ -10,4 +10,5 @@ store-requires c = search part_laws
 
 pub returns : goal.returns
 returns c =
-    record { next = (part_whole _ _ _ _ _ c.wide.ensures.0 _ _ _ c.requires c.spelling.ensures _ _ c.store-p.ensures.next c.store-p.ensures.bytes _ _ (c.store.ensures.next, c.store.ensures.bytes)).0; bytes = (part_whole _ _ _ _ _ c.wide.ensures.0 _ _ _ c.requires c.spelling.ensures _ _ c.store-p.ensures.next c.store-p.ensures.bytes _ _ (c.store.ensures.next, c.store.ensures.bytes)).1 }
+    let both = part_whole _ _ _ _ _ c.wide.ensures.0 _ _ _ c.requires c.spelling.ensures _ _ c.store-p.ensures.next c.store-p.ensures.bytes _ _ (c.store.ensures.next, c.store.ensures.bytes) in
+    record { next = both.0; bytes = both.1 }

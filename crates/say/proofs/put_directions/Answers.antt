@@ -6,4 +6,7 @@ use Rattle.say.proofs.put_directions.Goals as goal
 pub returns : goal.returns
 unfolding directions
 returns c =
-    record { next = (run_both _ _ _ _ _ _ _ _ (c.put_item-p.ensures.next, c.put_item-p.ensures.bytes) (run_both _ _ _ _ _ _ _ _ (c.put_item-q.ensures.next, c.put_item-q.ensures.bytes) (run_both _ _ _ _ _ _ _ _ (c.put_item-s.ensures.next, c.put_item-s.ensures.bytes) (c.put_item.ensures.next, c.put_item.ensures.bytes)))).0; bytes = (run_both _ _ _ _ _ _ _ _ (c.put_item-p.ensures.next, c.put_item-p.ensures.bytes) (run_both _ _ _ _ _ _ _ _ (c.put_item-q.ensures.next, c.put_item-q.ensures.bytes) (run_both _ _ _ _ _ _ _ _ (c.put_item-s.ensures.next, c.put_item-s.ensures.bytes) (c.put_item.ensures.next, c.put_item.ensures.bytes)))).1 }
+    let both = run_both _ _ _ _ _ _ _ _ (c.put_item-p.ensures.next, c.put_item-p.ensures.bytes) (run_both _ _ _ _ _ _ _ _
+    (c.put_item-q.ensures.next, c.put_item-q.ensures.bytes) (run_both _ _ _ _ _ _ _ _
+    (c.put_item-s.ensures.next, c.put_item-s.ensures.bytes) (c.put_item.ensures.next, c.put_item.ensures.bytes))) in
+    record { next = both.0; bytes = both.1 }

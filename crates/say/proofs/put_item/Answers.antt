@@ -4,4 +4,7 @@ use Rattle.say.proofs.put_item.Goals as goal
 
 pub returns : goal.returns
 returns c =
-    record { next = (item_run _ _ _ _ _ _ _ _ _ _ _ _ _ _ (c.put_bytes.ensures.answer, c.put_bytes.ensures.bytes) c.after-p.ensures (c.put_bytes-2.ensures.answer, c.put_bytes-2.ensures.bytes) c.after-q.ensures (c.put_name.ensures.answer, c.put_name.ensures.bytes) c.after.ensures).0; bytes = (item_run _ _ _ _ _ _ _ _ _ _ _ _ _ _ (c.put_bytes.ensures.answer, c.put_bytes.ensures.bytes) c.after-p.ensures (c.put_bytes-2.ensures.answer, c.put_bytes-2.ensures.bytes) c.after-q.ensures (c.put_name.ensures.answer, c.put_name.ensures.bytes) c.after.ensures).1 }
+    let both = item_run _ _ _ _ _ _ _ _ _ _ _ _ _ _ (c.put_bytes.ensures.answer, c.put_bytes.ensures.bytes)
+    c.after-p.ensures (c.put_bytes-2.ensures.answer, c.put_bytes-2.ensures.bytes) c.after-q.ensures
+    (c.put_name.ensures.answer, c.put_name.ensures.bytes) c.after.ensures in
+    record { next = both.0; bytes = both.1 }

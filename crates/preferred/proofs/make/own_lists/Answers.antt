@@ -13,7 +13,11 @@ pub kex_chosen-requires : goal.kex_chosen-requires
 kex_chosen-requires c = (judged_valid _ _ c.valid.ensures (ap not c.if-not-valid.false)).kex
 
 pub key_rows-requires : goal.key_rows-requires
-key_rows-requires c = ((judged_valid _ _ c.valid.ensures (ap not c.if-not-valid.false)).key, (judged_valid _ _ c.valid.ensures (ap not c.if-not-valid.false)).certificate)
+key_rows-requires c = (
+  (judged_valid _ _ c.valid.ensures
+      (ap not c.if-not-valid.false)).key,
+  (judged_valid _ _ c.valid.ensures (ap not c.if-not-valid.false)).certificate,
+)
 
 pub all_rows-requires : goal.all_rows-requires
 all_rows-requires c = (judged_valid _ _ c.valid.ensures (ap not c.if-not-valid.false)).cipher
