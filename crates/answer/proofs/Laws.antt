@@ -1,10 +1,18 @@
 -- Laws of answers that every layer cites. Assumes nothing.
-use mathlib.Core.Path.{◌≡◌, refl, sym}
+use mathlib.Core.Path.{◌≡◌, refl, ap, sym, ◌∙◌}
 use mathlib.Core.Bool.{Bool, true, false, ◌&&◌}
 use Prim.Native.Nat.{ℕ}
 use native.Mathlib.Omega.{arith}
-use Rattle.answer.specs.declared.Refusal.{Refusal}
-use Rattle.answer.specs.Answer.{Out, refused, done, guard, refuse, ◌>>=◌}
+use lib.Dec.{eqb}
+use Rattle.std.specs.Prelude.{Result, Ok, Err}
+use Rattle.answer.specs.declared.Cause.{Cause}
+use Rattle.answer.specs.declared.Cause.TheVariants.{
+  TooLong, PastEnd, NotUtf8, PacketSize, Trailing, Inconsistent, Padding, NoRoom, BadTable, NoKex, NoKey, NoCipher, NoMac,
+  NoCompression,
+}
+use Rattle.answer.specs.declared.Refusal.{Refusal as Answered}
+use Rattle.answer.specs.Refusal.{Refusal, number as number_of, told}
+use Rattle.answer.specs.Answer.{Out, refused, done, guard, refuse, pick, outcome, answered, ◌>>=◌}
 
 -- the refusal that carries n, for what stands at i; at 0
 abbrev pub NoAt : ℕ → ℕ → Refusal → Type 0
@@ -40,6 +48,55 @@ un_refused p = cc
 
 pub not_both : {A : Type 0} {a : A} {r : Refusal} → ◌≡◌ {A = Out A} (done a) (refused r) → ⊥
 not_both p = never (cc)
+
+-- no two causes have one number,
+cause_of : ℕ → Cause
+cause_of n =
+    pick (eqb n 1) TooLong (pick (eqb n 2) PastEnd (pick (eqb n 3) NotUtf8 (pick (eqb n 4) PacketSize (pick (eqb n 5) Trailing
+    (pick (eqb n 6) Inconsistent (pick (eqb n 7) Padding (pick (eqb n 8) NoRoom (pick (eqb n 9) BadTable (pick (eqb n 10) NoKex
+    (pick (eqb n 11) NoKey (pick (eqb n 12) NoCipher (pick (eqb n 13) NoMac NoCompression))))))))))))
+
+cause_back : (c : Cause) → cause_of (number_of c) ≡ c
+unfolding cause_of
+cause_back = elim [
+  TooLong ↦ refl
+  | PastEnd ↦ refl
+  | NotUtf8 ↦ refl
+  | PacketSize ↦ refl
+  | Trailing ↦ refl
+  | Inconsistent ↦ refl
+  | Padding ↦ refl
+  | NoRoom ↦ refl
+  | BadTable ↦ refl
+  | NoKex ↦ refl
+  | NoKey ↦ refl
+  | NoCipher ↦ refl
+  | NoMac ↦ refl
+  | NoCompression ↦ refl
+]
+
+pub number_unique : (a b : Cause) → ◌≡◌ {A = ℕ} (number_of a) (number_of b) → a ≡ b
+number_unique a b e = sym (cause_back a) ∙ (ap cause_of e ∙ cause_back b)
+
+-- and so no two refusals and no two answers have one meaning, where no two values have
+pub told_unique : (a b : Answered) → ◌≡◌ {A = Refusal} (told a) (told b) → a ≡ b
+told_unique a b e =
+    let c = number_unique a.cause b.cause (ap (λ (r : Refusal). r.number) e) in
+    let o = ap (λ (r : Refusal). r.offset) e in
+    λ i. record { offset = o i; cause = c i }
+
+pub outcome_unique : {A B : Type 0} (f : A → B) → ((a b : A) → f a ≡ f b → a ≡ b) → (x y : Result A Answered)
+    → ◌≡◌ {A = Out B} (outcome f x) (outcome f y) → x ≡ y
+outcome_unique f one (Ok a) (Ok b) e = ap Ok (one a b (un_done e))
+outcome_unique f one (Ok a) (Err r) e = absurd (not_both e)
+outcome_unique f one (Err q) (Ok b) e = absurd (not_both (sym e))
+outcome_unique f one (Err q) (Err r) e = ap Err (told_unique q r (un_refused e))
+
+pub answered_unique : {A : Type 0} (x y : Result A Cause) → ◌≡◌ {A = Out A} (answered x) (answered y) → x ≡ y
+answered_unique (Ok a) (Ok b) e = ap Ok (un_done e)
+answered_unique (Ok a) (Err r) e = absurd (not_both e)
+answered_unique (Err q) (Ok b) e = absurd (not_both (sym e))
+answered_unique (Err q) (Err r) e = ap Err (number_unique q r (ap (λ (z : Refusal). z.number) (un_refused e)))
 
 -- an `&&` that holds, taken apart
 pub and_left : (a b : Bool) → (a && b) ≡ true → a ≡ true

@@ -1,7 +1,9 @@
 -- A refusing answer: what a definition of this project gives, a refusal with its number and offset or a value.
 -- Definitions are written with `do`, so that refusals stand in the order in which document 01 gives them.
-use Rattle.std.specs.Prelude.{Bool, true, false, ℕ}
-use Rattle.answer.specs.declared.Refusal.{Refusal}
+use Rattle.std.specs.Prelude.{Bool, true, false, ℕ, Result, Ok, Err}
+use Rattle.answer.specs.declared.Cause.{Cause}
+use Rattle.answer.specs.declared.Refusal.{Refusal as Answered}
+use Rattle.answer.specs.Refusal.{Refusal, told, number as number_of}
 
 infixl 20 ◌>>=◌
 pub data Out (A : Type 0) : Type 0 where
@@ -21,10 +23,6 @@ refuse_at n i = refused (record { number = n; offset = i })
 abbrev pub refuse : {A : Type 0} → ℕ → Out A
 refuse n = refuse_at n 0
 
--- the number 0, which refuses nothing: what an answer says that is no refusal and is asked for one
-abbrev pub no_refusal : Refusal
-no_refusal = record { number = 0; offset = 0 }
-
 -- the same answer, but a refusal is for what stands at i: a field, where only its bytes were seen
 abbrev pub placed : {A : Type 0} → ℕ → Out A → Out A
 placed i (refused r) = refuse_at r.number i
@@ -42,3 +40,12 @@ guard_at n i false = refuse_at n i
 
 abbrev pub guard : ℕ → Bool → Out (Unit {0})
 guard n b = guard_at n 0 b
+
+-- What the code's answers mean: of a reader, whose values `f` reads, and of what refuses nowhere.
+abbrev pub outcome : {A B : Type 0} → (A → B) → Result A Answered → Out B
+outcome f (Ok a) = done (f a)
+outcome f (Err r) = refused (told r)
+
+abbrev pub answered : {A : Type 0} → Result A Cause → Out A
+answered (Ok a) = done a
+answered (Err c) = refuse (number_of c)

@@ -2,56 +2,60 @@
 #![tactic(auto)]
 
 ghost use Rattle.std.specs.Prelude.{◌≡◌};
+ghost use Rattle.answer.specs.Refusal.{number, IsAtFront};
 
-// The numbers (document 01, "Numbers a refusal carries"), named as include/harupesat.h names them.
-pub const TOO_LONG: u8 = 1;
+// Why an input or a table is refused: the numbers of document 01 ("Numbers a refusal carries"), named as
+// include/harupesat.h names them. A writer, which refuses nowhere, answers with the cause alone.
+#[derive(Clone, Copy, Debug, PartialEq, Eq)]
+pub enum Cause {
+    TooLong = 1,
+    PastEnd = 2,
+    NotUtf8 = 3,
+    PacketSize = 4,
+    Trailing = 5,
+    Inconsistent = 6,
+    Padding = 7,
+    NoRoom = 8,
+    BadTable = 9,
+    NoKex = 10,
+    NoKey = 11,
+    NoCipher = 12,
+    NoMac = 13,
+    NoCompression = 14,
+}
 
-pub const PAST_END: u8 = 2;
-
-pub const NOT_UTF8: u8 = 3;
-
-pub const PACKET_SIZE: u8 = 4;
-
-pub const TRAILING: u8 = 5;
-
-pub const INCONSISTENT: u8 = 6;
-
-pub const PADDING: u8 = 7;
-
-pub const NO_ROOM: u8 = 8;
-
-pub const BAD_TABLE: u8 = 9;
-
-pub const NO_KEX: u8 = 10;
-
-pub const NO_KEY: u8 = 11;
-
-pub const NO_CIPHER: u8 = 12;
-
-pub const NO_MAC: u8 = 13;
-
-pub const NO_COMPRESSION: u8 = 14;
-
-// What an answer that is no refusal says when it is asked for one.
-pub const NOTHING: u8 = 0;
-
-// A refusal's number, and the offset at which the offending field's first byte stands: in a payload or body from its first
-// byte, in framing from the packet's (document 02, No. 6). What no field offends has offset 0. Readers alone answer with it: a
-// writer's refusal is a number. The offset stands first, since an opening is then read in fewer instructions.
-#[derive(Clone, Copy)]
+// A refusal's cause, and the offset at which the offending field's first byte stands: in a payload or body from its first
+// byte, in framing from the packet's (document 02, No. 6). What no field offends has offset 0. Readers alone answer with it.
+// The offset stands first, since an opening is then read in fewer instructions.
+#[derive(Clone, Copy, Debug, PartialEq, Eq)]
 pub struct Refusal {
     pub offset: usize,
-    pub number: u8,
+    pub cause: Cause,
 }
 
-pub fn refuse_at(number: u8, offset: usize) -> Refusal
-    ensures { result ≡ record { number = number; offset = offset } }
-{
-    Refusal { number, offset }
+impl Cause {
+    pub fn number(self) -> u8
+        ensures { result ≡ number self }
+    {
+        self as u8
+    }
+
+    // The refusal of the field that starts at `offset`.
+    pub fn at(self, offset: usize) -> Refusal
+        ensures { result ≡ record { offset = offset; cause = self } }
+    {
+        Refusal {
+            offset,
+            cause: self,
+        }
+    }
 }
 
-pub fn refuse(number: u8) -> Refusal
-    ensures { result ≡ record { number = number; offset = 0 } }
-{
-    refuse_at(number, 0)
+// What no field offends stands at the front.
+impl From<Cause> for Refusal {
+    ghost from_gives = { IsAtFront };
+
+    fn from(cause: Cause) -> Refusal {
+        cause.at(0)
+    }
 }

@@ -8,12 +8,13 @@ use borrow.Author.Tests.{le-leb, lt-leb}
 use lib.Dec.{leb}
 use lib.ListN.{length, take, drop, get_or, set, length-append}
 use lib.Seq.{sets, sets-eq, length-sets}
-use Rattle.answer.specs.declared.Refusal.{Refusal}
+use Rattle.std.specs.Prelude.{Result, Ok, Err}
+use Rattle.answer.specs.declared.Cause.{Cause}
+use Rattle.answer.specs.declared.Cause.TheVariants.{NoRoom}
+use Rattle.answer.specs.Refusal.{Refusal}
 use Rattle.answer.specs.Answer.{Out, refused, done, refuse, ◌>>=◌}
-use Rattle.answer.proofs.Laws.{split, pass, stop, un_refused}
+use Rattle.answer.proofs.Laws.{split, pass, stop, answered_unique}
 use Rattle.put.specs.Written.{written, buffer, put, word, string}
-use Rattle.put.specs.declared.Put.{Put}
-use Rattle.put.specs.declared.Put.TheVariants.{Next, Refused}
 
 -- two runs of stores, the second from where the first ended, are one run
 pub sets_append : (d : List ℕ) (i : ℕ) (a b : List ℕ) → sets d i (a ++ b) ≡ sets (sets d i a) (i + length a) b
@@ -105,17 +106,14 @@ unfolding string
 string_long x h = stop 1 _ _ (lt-leb (length x) 4294967295 h)
 
 -- no two answers have one meaning
-pub put_unique : (a b : Put) → put a ≡ put b → a ≡ b
-put_unique (Next m) (Next n) e = cc
-put_unique (Next m) (Refused r) e = cc
-put_unique (Refused r) (Next n) e = cc
-put_unique (Refused q) (Refused r) e = ap Refused (ap (λ (z : Refusal). z.number) (un_refused e))
+pub put_unique : (a b : Result ℕ Cause) → ◌≡◌ {A = Out ℕ} (put a) (put b) → a ≡ b
+put_unique a b e = answered_unique a b e
 
-module _ (p : Put) (out : List ℕ) (at : ℕ) (x : List ℕ) (told : put p ≡ written out at (done x)) where
+module _ (p : Result ℕ Cause) (out : List ℕ) (at : ℕ) (x : List ℕ) (told : put p ≡ written out at (done x)) where
   -- so where there is room, a put has one answer only ..
-  pub put_fits : at + length x ≤ length out → p ≡ Next (at + length x)
-  put_fits h = put_unique p (Next (at + length x)) (told ∙ written_fits out at x h)
+  pub put_fits : at + length x ≤ length out → p ≡ Ok (at + length x)
+  put_fits h = put_unique p (Ok (at + length x)) (told ∙ written_fits out at x h)
 
   -- .. and where there is none, one too
-  pub put_full : length out < at + length x → p ≡ Refused 8
-  put_full h = put_unique p (Refused 8) (told ∙ written_full out at x h)
+  pub put_full : length out < at + length x → p ≡ Err NoRoom
+  put_full h = put_unique p (Err NoRoom) (told ∙ written_full out at x h)

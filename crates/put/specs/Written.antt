@@ -1,10 +1,9 @@
 -- What a writer answers and what the lent buffer then holds: all that is to be written stands at its position, or the
 -- writer refuses and no byte has changed. One pair of definitions serves every writer.
-use Rattle.std.specs.Prelude.{List, [], ◌∷◌, ◌++◌, ℕ, ◌+◌, ◌/◌, ◌%◌, leb, length}
+use Rattle.std.specs.Prelude.{List, [], ◌∷◌, ◌++◌, ℕ, ◌+◌, ◌/◌, ◌%◌, leb, length, Result}
 use Rattle.std.proofs.lemmas.List.Edits.{sets}
-use Rattle.answer.specs.Answer.{Out, refused, done, refuse, guard, pick, ◌>>=◌}
-use Rattle.put.specs.declared.Put.{Put}
-use Rattle.put.specs.declared.Put.TheVariants.{Next, Refused}
+use Rattle.answer.specs.declared.Cause.{Cause}
+use Rattle.answer.specs.Answer.{Out, refused, done, guard, pick, answered, ◌>>=◌}
 
 -- the answer: the position after what was written (8: the lent output is shorter than what is to be written;
 -- docs/DIFFERENCES.md, X5)
@@ -19,10 +18,9 @@ unfoldable pub buffer : List ℕ → ℕ → Out (List ℕ) → List ℕ
 buffer out at (refused r) = out
 buffer out at (done x) = pick (leb (at + length x) (length out)) (sets out at x) out
 
--- what a `Put` means
-abbrev pub put : Put → Out ℕ
-put (Next n) = done n
-put (Refused n) = refuse n
+-- what a put answers means
+abbrev pub put : Result ℕ Cause → Out ℕ
+put p = answered p
 
 -- uint32, big-endian (RFC 4251 section 5)
 unfoldable pub word : ℕ → List ℕ
