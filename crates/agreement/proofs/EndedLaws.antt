@@ -7,7 +7,7 @@ use mathlib.Core.Option.{Option, some}
 use Prim.Native.Nat.{ℕ, ◌<◌, ◌≤◌}
 use native.Mathlib.Omega.{arith}
 use borrow.Author.Tests.{not-true}
-use Rattle.answer.specs.declared.Refusal.{Refusal}
+use Rattle.answer.specs.Refusal.{Refusal}
 use Rattle.answer.specs.Answer.{Out, refused, done, refuse, ◌>>=◌}
 use Rattle.answer.proofs.Laws.{split, and_left, and_right}
 use Rattle.text.specs.Same.{same}

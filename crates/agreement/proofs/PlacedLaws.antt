@@ -1,7 +1,7 @@
 -- An answer with its refusal's offset set: what it says but for the offset. Assumes nothing.
 use mathlib.Core.Path.{◌≡◌, ap, sym}
 use Prim.Native.Nat.{ℕ}
-use Rattle.answer.specs.declared.Refusal.{Refusal}
+use Rattle.answer.specs.Refusal.{Refusal}
 use Rattle.answer.specs.Answer.{Out, refused, done, refuse_at, placed, ◌>>=◌}
 use Rattle.answer.proofs.Laws.{un_refused, not_both}
 

@@ -1,7 +1,7 @@
 -- How two ends can end, in the words of demand 3.
 use Rattle.std.specs.Prelude.{◌≡◌, Bool, true, false, List, ℕ, ◌<◌}
 use Rattle.std.proofs.Math.Option.{some}
-use Rattle.answer.specs.declared.Refusal.{Refusal}
+use Rattle.answer.specs.Refusal.{Refusal}
 use Rattle.answer.specs.Answer.{Out, refused, done, refuse_at, pick}
 use Rattle.names.specs.Lookup.{number_of}
 use Rattle.names.specs.declared.Kind.TheVariants.{Kex, Key, Certificate, Cipher, Mac, Compression}

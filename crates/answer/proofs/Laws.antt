@@ -14,12 +14,12 @@ use Rattle.answer.specs.declared.Refusal.{Refusal as Answered}
 use Rattle.answer.specs.Refusal.{Refusal, number as number_of, told}
 use Rattle.answer.specs.Answer.{Out, refused, done, guard, refuse, pick, outcome, answered, ◌>>=◌}
 
--- the refusal that carries n, for what stands at i; at 0
-abbrev pub NoAt : ℕ → ℕ → Refusal → Type 0
-NoAt n i r = ◌≡◌ {A = Refusal} r (record { number = n; offset = i })
+-- the code's refusal by cause k, for what stands at i; at 0
+abbrev pub NoAt : Cause → ℕ → Answered → Type 0
+NoAt k i r = ◌≡◌ {A = Answered} r (record { offset = i; cause = k })
 
-abbrev pub No : ℕ → Refusal → Type 0
-No n r = NoAt n 0 r
+abbrev pub No : Cause → Answered → Type 0
+No k r = NoAt k 0 r
 
 -- equations that clash prove 0 ≡ 1 by `cc`, and so anything
 pub never : {G : Type 0} → ◌≡◌ {A = ℕ} 0 1 → G

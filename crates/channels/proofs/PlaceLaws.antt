@@ -7,7 +7,7 @@ use lib.Dec.{leb}
 use lib.ListN.{length, drop}
 use Rattle.answer.specs.Answer.{done, guard}
 use Rattle.answer.proofs.WalkLaws.{Post, at_end, go_on, of_accepted}
-use Rattle.wire.specs.declared.answers.Place.{Place}
+use Rattle.wire.specs.declared.place.Place.{Place}
 use Rattle.wire.specs.Fields.{At, Run, here, string}
 use Rattle.wire.specs.Shown.{shown}
 use Rattle.wire.proofs.ShowLaws.{inside}

@@ -5,7 +5,7 @@ use Prim.Native.Nat.{ℕ}
 use types.Run.{OneOf, miss}
 use denote.Enum.Declared.{tag_of}
 use Rattle.layouts.specs.contracts.ChannelType.{the_type}
-use Rattle.wire.specs.declared.answers.Place.{Place}
+use Rattle.wire.specs.declared.place.Place.{Place}
 use Rattle.layouts.specs.declared.ChannelType.{ChannelType}
 use Rattle.layouts.specs.declared.ChannelType.TheVariants.{Session, X11, DirectTcpip, DirectStreamLocal, ForwardedTcpIp, ForwardedStreamLocal, AgentForward, Unknown}
 use Rattle.channels.specs.Open.{rest_of}

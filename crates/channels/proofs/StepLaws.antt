@@ -5,9 +5,9 @@ use Prim.Native.Nat.{ℕ, ◌-◌, ◌≤◌}
 use native.Mathlib.Omega.{arith}
 use lib.ListN.{length, take, drop}
 use Rattle.answer.specs.Answer.{Out, refused, ◌>>=◌}
-use Rattle.answer.specs.declared.Refusal.{Refusal}
-use Rattle.wire.specs.declared.answers.Cursor.{Cursor}
-use Rattle.wire.specs.declared.answers.Place.{Place}
+use Rattle.answer.specs.Refusal.{Refusal}
+use Rattle.wire.specs.declared.cursor.Cursor.{Cursor}
+use Rattle.wire.specs.declared.place.Place.{Place}
 use Rattle.wire.specs.declared.answers.GotText.{GotText}
 use Rattle.wire.specs.declared.answers.GotText.TheVariants.{Text}
 use Rattle.wire.specs.Fields.{At, here, string}

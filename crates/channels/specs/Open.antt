@@ -1,7 +1,7 @@
 -- Opening bodies (RFC 4254 section 5.1): document 01, "Channel opening". A body starts after the message number.
 use Rattle.std.specs.Prelude.{List, ℕ, leb, length}
 use Rattle.answer.specs.Answer.{Out, refused, done, guard, ◌>>=◌}
-use Rattle.wire.specs.declared.answers.Place.{Place}
+use Rattle.wire.specs.declared.place.Place.{Place}
 use Rattle.wire.specs.Fields.{here, string}
 use Rattle.replies.specs.Confirmation.{most_body, offer}
 use Rattle.layouts.specs.declared.ChannelType.{ChannelType}

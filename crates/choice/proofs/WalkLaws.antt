@@ -9,8 +9,8 @@ use native.Mathlib.Numerals.{add-one}
 use native.Mathlib.Omega.{arith}
 use lib.ListN.{length, get_or, take, drop}
 use lib.Seq.{drop-cons, drop-length, take-take, take-length, length-take-le}
-use Rattle.wire.specs.declared.answers.Cursor.{Cursor}
-use Rattle.wire.specs.declared.answers.Place.{Place}
+use Rattle.wire.specs.declared.cursor.Cursor.{Cursor}
+use Rattle.wire.specs.declared.place.Place.{Place}
 use Rattle.wire.specs.declared.answers.NextName.{NextName}
 use Rattle.wire.specs.declared.answers.NextName.TheVariants.{Name, NoMore}
 use Rattle.wire.specs.Fields.{here}

@@ -4,7 +4,7 @@ use Rattle.std.proofs.Common.{◌≡◌, ℕ, ◌+◌, ◌-◌, ◌%◌, ◌^◌
 use borrow.Author.Tests.{lt-leb}
 use lib.ListN.{length-replicate, replicate-append-replicate}
 use lib.Seq.{sets}
-use Rattle.answer.specs.declared.Refusal.{Refusal}
+use Rattle.answer.specs.Refusal.{Refusal}
 use Rattle.answer.specs.Answer.{refused, done}
 use Rattle.answer.proofs.Laws.{No, NoAt}
 use Rattle.put.proofs.PutLaws.{sets_append}

@@ -1,9 +1,9 @@
 -- Laws of reading: one for each answer that the code gives, in the words of the code's tests. Assumes nothing.
 use Rattle.std.proofs.Common.{◌≡◌, ℕ, ◌+◌, ◌-◌, ◌<◌, ◌≤◌, leb, List, length, sym, ap, arith, le-ltb, lt-ltb, leb-false, leb-true}
-use Rattle.answer.specs.declared.Refusal.{Refusal}
+use Rattle.answer.specs.Refusal.{Refusal}
 use Rattle.answer.specs.Answer.{refused, done, ◌>>=◌}
 use Rattle.answer.proofs.Laws.{split, un_done, not_both}
-use Rattle.wire.specs.declared.answers.Cursor.{Cursor}
+use Rattle.wire.specs.declared.cursor.Cursor.{Cursor}
 use Rattle.wire.specs.declared.answers.Checked.{Checked}
 use Rattle.wire.specs.declared.answers.Checked.TheVariants.{Fine, Refused as NotFine}
 use Rattle.wire.specs.declared.answers.GotWord.{GotWord}

@@ -2,7 +2,7 @@
 use Rattle.std.proofs.Common.{◌≡◌, ℕ, ◌+◌, ◌-◌, ◌*◌, ◌/◌, ◌<◌, ◌≤◌, true, leb, List, [], ◌∷◌, ◌++◌, length, take, drop, replicate, sym, refl, ap, ◌∙◌, arith, length-append, length-drop, length-take, leb-true}
 use lib.ListN.{length-replicate, replicate-append-replicate}
 use lib.Seq.{sets, length-sets}
-use Rattle.answer.specs.declared.Refusal.{Refusal}
+use Rattle.answer.specs.Refusal.{Refusal}
 use Rattle.answer.specs.Answer.{done, refuse, ◌>>=◌}
 use Rattle.answer.proofs.Laws.{split, not_both}
 use Rattle.put.specs.Written.{written, buffer, word}

@@ -3,7 +3,7 @@ use Rattle.std.proofs.Common.{◌≡◌, ℕ, ◌+◌, ◌-◌, ◌%◌, ◌<◌
 use borrow.Author.Tests.{lt-leb}
 use lib.ListN.{length-replicate}
 use lib.Seq.{sets-eq}
-use Rattle.answer.specs.declared.Refusal.{Refusal}
+use Rattle.answer.specs.Refusal.{Refusal}
 use Rattle.answer.specs.Answer.{Out, done, refuse, ◌>>=◌}
 use Rattle.answer.proofs.Laws.{split, un_done, un_refused}
 use Rattle.put.proofs.PutLaws.{word_length}

@@ -16,7 +16,7 @@ use Rattle.answer.proofs.WalkLaws.{Post, at_end, go_on, of_accepted, passed}
 use Rattle.text.specs.Literal.{bytes}
 use Rattle.text.specs.Same.{same}
 use Rattle.text.specs.Utf8.{utf8}
-use Rattle.wire.specs.declared.answers.Place.{Place}
+use Rattle.wire.specs.declared.place.Place.{Place}
 use Rattle.wire.specs.Fields.{At, Run, here, word, run, string, end}
 use Rattle.wire.specs.Shown.{part, shown}
 use Rattle.wire.proofs.ShowLaws.{inside}

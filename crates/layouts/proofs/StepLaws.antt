@@ -6,7 +6,7 @@ use Prim.Native.Nat.{ℕ}
 use lib.ListN.{length, drop}
 use Rattle.answer.specs.Answer.{Out, done, pick}
 use Rattle.text.specs.Same.{same}
-use Rattle.wire.specs.declared.answers.Place.{Place}
+use Rattle.wire.specs.declared.place.Place.{Place}
 use Rattle.wire.specs.Fields.{At, here}
 use Rattle.wire.proofs.StepLaws.{field_steps}
 use Rattle.layouts.specs.declared.ChannelType.{ChannelType}

@@ -2,7 +2,7 @@
 use mathlib.Core.Path.{◌≡◌}
 use Prim.Native.Nat.{ℕ}
 use Rattle.answer.specs.Answer.{refused, done, ◌>>=◌}
-use Rattle.answer.specs.declared.Refusal.{Refusal}
+use Rattle.answer.specs.Refusal.{Refusal}
 use Rattle.wire.specs.Fields.{At, Run, word, string}
 use Rattle.layouts.specs.declared.ChannelType.TheVariants.{DirectStreamLocal, ForwardedStreamLocal}
 use Rattle.layouts.specs.declared.GotType.{GotType}

@@ -4,7 +4,7 @@ use Rattle.std.specs.Prelude.{Bool, true, false, length}
 use Rattle.answer.specs.Answer.{Out, refused, done, pick, ◌>>=◌}
 use Rattle.text.specs.Literal.{bytes}
 use Rattle.text.specs.Same.{same}
-use Rattle.wire.specs.declared.answers.Place.{Place}
+use Rattle.wire.specs.declared.place.Place.{Place}
 use Rattle.wire.specs.Fields.{At, Run, word, string, end}
 use Rattle.layouts.specs.declared.ChannelType.{ChannelType}
 use Rattle.layouts.specs.declared.ChannelType.TheVariants.{Session, X11, DirectTcpip, DirectStreamLocal, ForwardedTcpIp, ForwardedStreamLocal, AgentForward, Unknown}

@@ -9,7 +9,7 @@ use borrow.Author.Tests.{le-leb, lt-leb, not-true, not-false}
 use lib.Dec.{ltb}
 use lib.ListN.{length, take, drop, length-drop, length-take, take-append-drop}
 use Rattle.answer.specs.Answer.{Out, refused, done, ◌>>=◌}
-use Rattle.answer.specs.declared.Refusal.{Refusal}
+use Rattle.answer.specs.Refusal.{Refusal}
 use Rattle.answer.proofs.Laws.{No, NoAt, and_left, and_right, bind_done}
 use Rattle.text.specs.Same.{ascii, highest}
 use Rattle.text.specs.Utf8.{utf8}
@@ -17,8 +17,8 @@ use Rattle.text.proofs.Utf8Laws.{ascii_utf8}
 use Rattle.text.proofs.SameLaws.{low_ascii, highest_ascii, ascii_append}
 use Rattle.commas.specs.Cut.{cut, empty}
 use Rattle.commas.proofs.EndLaws.{empty_some}
-use Rattle.wire.specs.declared.answers.Cursor.{Cursor}
-use Rattle.wire.specs.declared.answers.Place.{Place}
+use Rattle.wire.specs.declared.cursor.Cursor.{Cursor}
+use Rattle.wire.specs.declared.place.Place.{Place}
 use Rattle.wire.specs.declared.answers.Checked.{Checked}
 use Rattle.wire.specs.declared.answers.Checked.TheVariants.{Fine, Refused as NotFine}
 use Rattle.wire.specs.declared.answers.GotText.{GotText}

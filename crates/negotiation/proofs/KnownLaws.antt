@@ -11,7 +11,7 @@ use borrow.Author.Tests.{leb-true, ltb-true, eqb-true, eq-eqb, leb-false, not-tr
 use lib.Dec.{leb, ltb, eqb}
 use lib.ListN.{length, get_or}
 use Rattle.answer.specs.Answer.{Out, refused, done, guard, pick, ◌>>=◌}
-use Rattle.answer.specs.declared.Refusal.{Refusal}
+use Rattle.answer.specs.Refusal.{Refusal}
 use Rattle.answer.proofs.Laws.{split, never, and_left, and_right, bind_done, un_done}
 use Rattle.answer.proofs.WalkLaws.{Post, nothing, at_end, go_on, of_accepted, passed}
 use Rattle.wire.specs.Fields.{At, here}

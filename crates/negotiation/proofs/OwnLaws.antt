@@ -8,7 +8,7 @@ use borrow.Author.Tests.{le-leb, lt-leb}
 use lib.ListN.{length, take, replicate, length-append}
 use lib.Seq.{length-take-le}
 use Rattle.answer.specs.Answer.{Out, refused, ◌>>=◌}
-use Rattle.answer.specs.declared.Refusal.{Refusal}
+use Rattle.answer.specs.Refusal.{Refusal}
 use Rattle.answer.proofs.Laws.{No, split}
 use Rattle.wire.specs.Fields.{At, here}
 use Rattle.names.specs.declared.Kind.TheVariants.{Cipher, Mac, Compression}

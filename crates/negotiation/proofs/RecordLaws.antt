@@ -6,7 +6,7 @@ use borrow.Author.Tests.{le-leb, lt-leb}
 use Rattle.names.specs.Tables.{first_row}
 use Rattle.names.specs.declared.Kind.TheVariants.{Key, Certificate}
 use Rattle.answer.specs.Answer.{refused, done, ◌>>=◌}
-use Rattle.answer.specs.declared.Refusal.{Refusal}
+use Rattle.answer.specs.Refusal.{Refusal}
 use Rattle.answer.proofs.Laws.{un_done, un_refused, not_both}
 use Rattle.stages.specs.declared.Rows.{Rows}
 use Rattle.stages.specs.declared.GotRows.{GotRows}

@@ -9,7 +9,7 @@ use native.Mathlib.Omega.{arith}
 use borrow.Author.Tests.{leb-true, ltb-true, lt-ltb}
 use lib.Dec.{leb, ltb, eqb, lit≤, lit<}
 use Rattle.answer.specs.Answer.{Out, refused, done, pick, ◌>>=◌}
-use Rattle.answer.specs.declared.Refusal.{Refusal}
+use Rattle.answer.specs.Refusal.{Refusal}
 use Rattle.answer.proofs.Laws.{split, and_left, and_right}
 use Rattle.wire.specs.Fields.{At, Run}
 use Rattle.commas.specs.Cut.{cut, every}

@@ -2,8 +2,8 @@
 use mathlib.Core.Path.{◌≡◌}
 use Prim.Native.Nat.{ℕ}
 use Rattle.answer.specs.Answer.{refused}
-use Rattle.answer.specs.declared.Refusal.{Refusal}
-use Rattle.wire.specs.declared.answers.Place.{Place}
+use Rattle.answer.specs.Refusal.{Refusal}
+use Rattle.wire.specs.declared.place.Place.{Place}
 use Rattle.channels.specs.Open.{got_open}
 use Rattle.layouts.specs.declared.ChannelType.{ChannelType}
 use Rattle.layouts.specs.declared.ChannelType.TheVariants.{Session, X11, DirectTcpip, DirectStreamLocal, ForwardedTcpIp}

@@ -1,7 +1,7 @@
 -- An opening and a confirmation, as structs (crates/shapes/specs/Shapes.antt).
 use Rattle.std.specs.Prelude.{ℕ}
 use Rattle.answer.specs.Answer.{Out, refused, done}
-use Rattle.wire.specs.declared.answers.Place.{Place}
+use Rattle.wire.specs.declared.place.Place.{Place}
 use Rattle.layouts.specs.declared.ChannelType.{ChannelType}
 use Rattle.layouts.specs.declared.ChannelType.TheVariants.{Session, X11, DirectTcpip, DirectStreamLocal, ForwardedTcpIp}
 use Rattle.layouts.specs.declared.ChannelType.TheVariants.{ForwardedStreamLocal, AgentForward, Unknown as UnknownType}

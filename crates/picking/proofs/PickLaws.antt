@@ -9,10 +9,10 @@ use borrow.Author.Tests.{le-leb, lt-leb, eq-eqb, ne_eqb, ltb-false}
 use lib.Dec.{ltb}
 use lib.ListN.{length, take, drop, get_or, get_or-eq_default}
 use Rattle.answer.specs.Answer.{Out, refused, done, pick, ◌>>=◌}
-use Rattle.answer.specs.declared.Refusal.{Refusal}
+use Rattle.answer.specs.Refusal.{Refusal}
 use Rattle.answer.proofs.Laws.{NoAt, split, un_done, not_both}
-use Rattle.wire.specs.declared.answers.Cursor.{Cursor}
-use Rattle.wire.specs.declared.answers.Place.{Place}
+use Rattle.wire.specs.declared.cursor.Cursor.{Cursor}
+use Rattle.wire.specs.declared.place.Place.{Place}
 use Rattle.wire.specs.declared.answers.GotText.{GotText}
 use Rattle.wire.specs.declared.answers.GotText.TheVariants.{Text, Refused as NoText}
 use Rattle.wire.specs.Fields.{At, here, run}

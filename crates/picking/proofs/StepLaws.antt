@@ -4,8 +4,8 @@ use mathlib.Core.Bool.{Bool}
 use mathlib.Core.List.{List}
 use Prim.Native.Nat.{ℕ}
 use Rattle.answer.specs.Answer.{Out, refused, ◌>>=◌}
-use Rattle.answer.specs.declared.Refusal.{Refusal}
-use Rattle.wire.specs.declared.answers.Cursor.{Cursor}
+use Rattle.answer.specs.Refusal.{Refusal}
+use Rattle.wire.specs.declared.cursor.Cursor.{Cursor}
 use Rattle.wire.specs.Fields.{At, here}
 use Rattle.wire.proofs.StepLaws.{field_steps}
 use Rattle.picking.specs.declared.Picked.{Picked}

@@ -3,7 +3,7 @@
 use Rattle.std.specs.Prelude.{Bool, false, ◌&&◌, List, ℕ, leb, eqb, get_or}
 use Rattle.std.proofs.Math.Option.{Option, some, none}
 use Rattle.answer.specs.Answer.{Out, refused, done, no_refusal, pick, ◌>>=◌}
-use Rattle.answer.specs.declared.Refusal.{Refusal}
+use Rattle.answer.specs.Refusal.{Refusal}
 use Rattle.wire.specs.Fields.{At, Run, here, run}
 use Rattle.commas.specs.Cut.{cut}
 use Rattle.namelist.specs.Judged.{name_list}

@@ -9,7 +9,7 @@ use borrow.Author.Tests.{leb-true, leb-false, le-leb, lt-leb, ltb-true, ltb-fals
 use lib.Dec.{leb, ltb}
 use lib.ListN.{length, get_or, take, drop, length-take}
 use lib.Seq.{take-add, take-take, drop_at, get_or-take, length-take-le}
-use Rattle.answer.specs.declared.Refusal.{Refusal}
+use Rattle.answer.specs.Refusal.{Refusal}
 use Rattle.answer.specs.Answer.{Out, refused, done, refuse_at, ◌>>=◌}
 use Rattle.answer.proofs.Laws.{split, never}
 use Rattle.text.specs.Utf8.{utf8}

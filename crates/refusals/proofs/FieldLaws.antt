@@ -9,7 +9,7 @@ use native.Mathlib.Omega.{arith}
 use borrow.Author.Tests.{leb-true}
 use lib.Dec.{leb}
 use lib.ListN.{length, length-drop}
-use Rattle.answer.specs.declared.Refusal.{Refusal}
+use Rattle.answer.specs.Refusal.{Refusal}
 use Rattle.answer.specs.Answer.{Out}
 use Rattle.answer.proofs.Laws.{split}
 use Rattle.text.specs.Same.{same}

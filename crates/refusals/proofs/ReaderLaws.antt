@@ -7,12 +7,12 @@ use native.Mathlib.Omega.{arith}
 use borrow.Author.Tests.{leb-true}
 use lib.Dec.{leb, eqb}
 use lib.ListN.{length}
-use Rattle.answer.specs.declared.Refusal.{Refusal}
+use Rattle.answer.specs.Refusal.{Refusal}
 use Rattle.answer.specs.Answer.{Out, refused, pick}
 use Rattle.answer.proofs.Laws.{un_refused, not_both}
 use Rattle.text.specs.Literal.{bytes}
 use Rattle.text.specs.Same.{same}
-use Rattle.wire.specs.declared.answers.Place.{Place}
+use Rattle.wire.specs.declared.place.Place.{Place}
 use Rattle.wire.specs.Fields.{At, Run, here}
 use Rattle.wire.specs.Shown.{shown}
 use Rattle.framing.specs.declared.Counters.{Counters}

@@ -8,7 +8,7 @@ use native.Mathlib.Omega.{arith}
 use lib.Dec.{leb}
 use lib.ListN.{length, take, drop}
 use lib.Seq.{take-add, drop_at, length-take-le}
-use Rattle.answer.specs.declared.Refusal.{Refusal}
+use Rattle.answer.specs.Refusal.{Refusal}
 use Rattle.answer.specs.Answer.{Out, refused, done, refuse_at, guard_at, ◌>>=◌}
 use Rattle.answer.proofs.Laws.{split, un_refused, not_both}
 use Rattle.text.specs.Same.{same}

@@ -2,9 +2,9 @@
 -- refusal carries"): none but these is. And the offset lies within the input, or at its very end, where a field is missing
 -- (document 02, No. 6).
 use Rattle.std.specs.Prelude.{◌≡◌, Bool, true, List, [], ◌∷◌, ℕ, ◌≤◌, length, take}
-use Rattle.answer.specs.declared.Refusal.{Refusal}
+use Rattle.answer.specs.Refusal.{Refusal}
 use Rattle.answer.specs.Answer.{Out, refused, done, refuse_at}
-use Rattle.wire.specs.declared.answers.Place.{Place}
+use Rattle.wire.specs.declared.place.Place.{Place}
 use Rattle.wire.specs.Shown.{shown}
 use Rattle.framing.specs.declared.Counters.{Counters}
 use Rattle.framing.specs.Clear.{read_packet}

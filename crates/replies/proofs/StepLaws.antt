@@ -7,9 +7,9 @@ use Prim.Native.Nat.{ℕ, ◌≤◌, ◌<◌}
 use borrow.Author.Tests.{le-leb, lt-leb, eq-eqb, ne_eqb}
 use lib.Dec.{leb, eqb}
 use Rattle.answer.specs.Answer.{Out, refused, guard, guard_at, ◌>>=◌}
-use Rattle.answer.specs.declared.Refusal.{Refusal}
+use Rattle.answer.specs.Refusal.{Refusal}
 use Rattle.answer.proofs.Laws.{No, NoAt}
-use Rattle.wire.specs.declared.answers.Cursor.{Cursor}
+use Rattle.wire.specs.declared.cursor.Cursor.{Cursor}
 use Rattle.wire.specs.Fields.{At, here}
 use Rattle.wire.proofs.StepLaws.{field_steps}
 use Rattle.replies.specs.declared.offer.Offer.{Offer}

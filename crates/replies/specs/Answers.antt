@@ -2,7 +2,7 @@
 -- the next field starts.
 use Rattle.std.specs.Prelude.{List, ℕ}
 use Rattle.answer.specs.Answer.{Out, refused, done, no_refusal}
-use Rattle.answer.specs.declared.Refusal.{Refusal}
+use Rattle.answer.specs.Refusal.{Refusal}
 use Rattle.wire.specs.Fields.{At, here}
 use Rattle.replies.specs.declared.ChannelOpenConfirmation.{ChannelOpenConfirmation}
 use Rattle.replies.specs.declared.GotConfirmation.{GotConfirmation}

@@ -8,7 +8,7 @@ use lib.Dec.{leb}
 use lib.ListN.{length}
 use Rattle.answer.specs.Answer.{◌>>=◌}
 use Rattle.answer.proofs.Laws.{split}
-use Rattle.wire.specs.declared.answers.Place.{Place}
+use Rattle.wire.specs.declared.place.Place.{Place}
 use Rattle.wire.specs.Shown.{shown, refusal_of}
 use Rattle.shapes.specs.declared.Shown.{Shown}
 use Rattle.shapes.specs.Shapes.{shown_of}

@@ -3,7 +3,7 @@
 -- and of a place.
 use Rattle.std.specs.Prelude.{ℕ}
 use Rattle.answer.specs.Answer.{Out, refused, done}
-use Rattle.wire.specs.declared.answers.Place.{Place}
+use Rattle.wire.specs.declared.place.Place.{Place}
 use Rattle.shapes.specs.declared.Written.{Written}
 use Rattle.shapes.specs.declared.Shown.{Shown}
 

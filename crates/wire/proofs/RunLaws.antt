@@ -8,46 +8,39 @@ use borrow.Author.Tests.{leb-true}
 use lib.Dec.{leb}
 use lib.ListN.{length, get_or, take, drop, length-drop}
 use lib.Seq.{drop-drop}
+use Rattle.answer.specs.declared.Cause.TheVariants.{PastEnd, NotUtf8}
+use Rattle.answer.specs.declared.Refusal.{Refusal as Answered}
+use Rattle.answer.specs.Refusal.{told}
 use Rattle.answer.specs.Answer.{refused, done, ◌>>=◌}
-use Rattle.answer.specs.declared.Refusal.{Refusal}
 use Rattle.answer.proofs.Laws.{NoAt, split, un_done, not_both}
-use Rattle.wire.specs.declared.answers.Cursor.{Cursor}
-use Rattle.wire.specs.declared.answers.Place.{Place}
-use Rattle.wire.specs.declared.answers.GotWord.{GotWord}
-use Rattle.wire.specs.declared.answers.GotWord.TheVariants.{Word, Refused as NoWord}
-use Rattle.wire.specs.Fields.{At, Run, here, big_endian, word, run, string}
 use Rattle.text.specs.Utf8.{utf8}
-use Rattle.wire.specs.declared.answers.GotText.{GotText}
-use Rattle.wire.specs.declared.answers.GotText.TheVariants.{Text, Refused as NoText}
+use Rattle.wire.specs.declared.place.Place.{Place}
+use Rattle.wire.specs.Fields.{At, Run, here, big_endian, word, run, string}
 use Rattle.wire.specs.Shown.{part}
-use Rattle.wire.specs.Answers.{got_word, got_text, run_at, why_no_word}
+use Rattle.wire.specs.Answers.{run_at}
 use Rattle.wire.proofs.FieldLaws.{long, short}
 
-module _ (s : List ℕ) (i : ℕ) (w : GotWord) (told : got_word s w ≡ word (here s i)) where
-  -- a number that was read stands inside the slice
-  pub word_inside : (n : ℕ) (c : Cursor) → w ≡ Word n c → c.at ≤ length s
+-- a number that was read stands inside the slice,
+module _ (s : List ℕ) (i n k : ℕ) (seen : done (n, here s k) ≡ word (here s i)) where
+  pub word_inside : k ≤ length s
   unfolding word ◌>>=◌
-  word_inside n c e =
+  word_inside =
       split (leb 4 (length (drop i s)))
       (λ t.
-      let k = ap (λ (x : ℕ × At). x.1.at) (un_done (rw (t, e) at told)) in
+      let k = ap (λ (x : ℕ × At). x.1.at) (un_done (rw t at seen)) in
       omega (arith, simp length-drop at (leb-true 4 (length (drop i s)) t)))
-      (λ t. absurd (not_both (rw (t, e) at told)))
+      (λ t. absurd (not_both (rw t at seen)))
 
-  pub run_stop : (x r : Refusal) → w ≡ NoWord x → r ≡ why_no_word w → refused r ≡ run (here s i)
+  -- and what it counts is there or not
+  pub run_late : (r : Answered) → length s - k < n → NoAt PastEnd i r → refused (told r) ≡ run (here s i)
   unfolding run ◌>>=◌
-  run_stop x r e f = rw (← told, f, e)
+  run_late r h f = rw (← seen, f, short s k n h)
 
-  pub run_late : (n : ℕ) (c : Cursor) (r : Refusal) → w ≡ Word n c → length s - c.at < n → NoAt 2 i r → refused r ≡ run (here s i)
+  pub run_read : n ≤ length s - k → done (run_at s (record { start = k; len = n }), here s (k + n)) ≡ run (here s i)
   unfolding run ◌>>=◌
-  run_late n c r e h f = rw (← told, f, e, short s c.at n h)
+  run_read h = rw (← seen, long s k n (let k = word_inside in omega arith), drop-drop)
 
-  pub run_at_lem : (n : ℕ) (c : Cursor) → w ≡ Word n c → n ≤ length s - c.at
-      → done (run_at s (record { start = c.at; len = n }), here s (c.at + n)) ≡ run (here s i)
-  unfolding run ◌>>=◌
-  run_at_lem n c e h = rw (← told, e, long s c.at n (let k = word_inside n c e in omega arith), drop-drop)
-
-pub ruleset run_laws = (run_stop, run_late, run_at_lem)
+pub ruleset run_laws = (run_late, run_read)
 
 -- the number that stands at i
 abbrev size : List ℕ → ℕ → ℕ
@@ -75,31 +68,24 @@ run_inside s i p n told =
     (λ u. absurd (not_both (rw (t, u) at told))))
     (λ t. absurd (not_both (rw t at told)))
 
-module _ (s : List ℕ) (i : ℕ) (r : GotText) (told : got_text s r ≡ run (here s i)) where
-  -- where `string` looks for UTF-8
-  inside : (p : Place) (c : Cursor) → r ≡ Text p c → Inside s p c.at
-  inside p c e = run_inside s i p c.at (rw e at told)
+-- a run that was read, where `string` looks for UTF-8
+module _ (s : List ℕ) (i : ℕ) (p : Place) (n : ℕ) (seen : done (run_at s p, here s n) ≡ run (here s i)) where
+  pub text_order : p.start ≤ n
+  text_order = let h = run_inside s i p n seen in omega arith
 
-  pub text_order : (p : Place) (c : Cursor) → r ≡ Text p c → p.start ≤ c.at
-  text_order p c e = let h = inside p c e in omega arith
+  pub text_within : n ≤ length s
+  text_within = (run_inside s i p n seen).within
 
-  pub text_within : (p : Place) (c : Cursor) → r ≡ Text p c → c.at ≤ length s
-  text_within p c e = (inside p c e).within
+  pub text_bytes : take (n - p.start) (drop p.start s) ≡ part p s
+  text_bytes = let h = run_inside s i p n seen in let l : n - p.start ≡ p.len = omega arith in rw l
 
-  pub text_bytes : (p : Place) (c : Cursor) → r ≡ Text p c → take (c.at - p.start) (drop p.start s) ≡ part p s
-  text_bytes p c e = let h = inside p c e in let l : c.at - p.start ≡ p.len = omega arith in rw l
-
-  pub string_stop : (x : Refusal) → r ≡ NoText x → got_text s r ≡ string (here s i)
-  unfolding string ◌>>=◌
-  string_stop x e = rw (← told, e)
-
-  module _ (p : Place) (c : Cursor) (e : r ≡ Text p c) (b : Bool) (f : b ≡ utf8 (take (c.at - p.start) (drop p.start s))) where
-    pub string_at : b ≡ true → done (run_at s p, here s c.at) ≡ string (here s i)
+  module _ (b : Bool) (f : b ≡ utf8 (take (n - p.start) (drop p.start s))) where
+    pub string_at : b ≡ true → done (run_at s p, here s n) ≡ string (here s i)
     unfolding string ◌>>=◌
-    string_at h = rw (← told, e, ← text_bytes p c e, ← f, h)
+    string_at h = rw (← seen, ← text_bytes, ← f, h)
 
-    pub string_bad : b ≡ false → (q : Refusal) → NoAt 3 i q → refused q ≡ string (here s i)
+    pub string_bad : b ≡ false → (q : Answered) → NoAt NotUtf8 i q → refused (told q) ≡ string (here s i)
     unfolding string ◌>>=◌
-    string_bad h q n = rw (← told, e, ← text_bytes p c e, ← f, h, n)
+    string_bad h q e = rw (← seen, ← text_bytes, ← f, h, e)
 
-pub ruleset string_laws = (text_order, text_within, string_stop, string_at, string_bad)
+pub ruleset string_laws = (text_order, text_within, string_at, string_bad)

@@ -11,10 +11,9 @@ use Rattle.answer.proofs.Laws.{split}
 use Rattle.commas.specs.Cut.{cut, empty, name_length}
 use Rattle.commas.proofs.EndLaws.{empty_at, empty_past, none_length, some_length, name_fits}
 use Rattle.commas.proofs.CutLaws.{stride, cut_next}
-use Rattle.wire.specs.declared.answers.Cursor.{Cursor}
-use Rattle.wire.specs.declared.answers.Place.{Place}
-use Rattle.wire.specs.declared.answers.NextName.{NextName}
-use Rattle.wire.specs.declared.answers.NextName.TheVariants.{Name, NoMore}
+use Rattle.wire.specs.declared.cursor.Cursor.{Cursor}
+use Rattle.wire.specs.declared.place.Place.{Place}
+use Rattle.std.specs.Prelude.{Option, Some, None}
 use Rattle.wire.specs.Fields.{At, Run, here}
 use Rattle.wire.specs.Walk.{Next, next_name, none, name}
 use Rattle.wire.specs.Shown.{part}
@@ -80,8 +79,8 @@ next_at none = 0
 next_at (name t d) = d.at
 
 -- a step of the walk, as the code tells it
-module _ (s : List ℕ) (i : ℕ) (r : NextName) (told : next_of s r ≡ next_name (here s i)) where
-  module _ (p : Place) (c : Cursor) (e : r ≡ Name p c) where
+module _ (s : List ℕ) (i : ℕ) (r : Option (Place × Cursor)) (told : next_of s r ≡ next_name (here s i)) where
+  module _ (p : Place) (c : Cursor) (e : r ≡ Some (p, c)) where
     seen : name (run_at s p) (here s c.at) ≡ next_name (here s i)
     seen = rw e at told
 
@@ -109,5 +108,5 @@ module _ (s : List ℕ) (i : ℕ) (r : NextName) (told : next_of s r ≡ next_na
     pub name_less : length s - c.at < length s - i
     name_less = let b = bounds in omega arith
 
-  pub none_left : r ≡ NoMore → cut (drop i s) ≡ []
+  pub none_left : r ≡ None → cut (drop i s) ≡ []
   none_left e = walk_end (here s i) (sym (rw e at told))

@@ -3,7 +3,7 @@
 use Rattle.std.specs.Prelude.{List, ℕ, ◌+◌, ◌*◌, leb, length, get_or, take, drop}
 use Rattle.answer.specs.Answer.{Out, done, guard_at, ◌>>=◌}
 use Rattle.text.specs.Utf8.{utf8}
-use Rattle.wire.specs.declared.answers.Place.{Place}
+use Rattle.wire.specs.declared.place.Place.{Place}
 
 -- How far a reader is in the input, and what is left from there on.
 pub record At : Type 0 where

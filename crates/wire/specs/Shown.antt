@@ -1,7 +1,10 @@
 -- A place handed back as the part of the slice that it is.
-use Rattle.std.specs.Prelude.{List, [], ℕ, ◌+◌, leb, length, take, drop}
-use Rattle.answer.specs.Answer.{Out, refused, done, guard, ◌>>=◌}
-use Rattle.wire.specs.declared.answers.Place.{Place}
+use Rattle.std.specs.Prelude.{List, [], ℕ, ◌+◌, leb, length, take, drop, Result, Ok, Err}
+use Rattle.std.proofs.Common.{Bor}
+use Rattle.answer.specs.Refusal.{number as number_of}
+use Rattle.answer.specs.Answer.{Out, refused, done, refuse, guard, ◌>>=◌}
+use Rattle.answer.specs.declared.Cause.{Cause}
+use Rattle.wire.specs.declared.place.Place.{Place}
 
 -- the bytes at a place
 abbrev pub part : Place → List ℕ → List ℕ
@@ -27,3 +30,8 @@ bytes_of (done s) = s
 abbrev pub start_of : {A : Type 0} → Place → Out A → ℕ
 start_of p (refused r) = 0
 start_of p (done a) = p.start
+
+-- what a shown part means: the bytes that it points to, or why there is none
+abbrev pub shown_part : Result (Bor (List ℕ)) Cause → Out (List ℕ)
+shown_part (Ok part) = done part.now
+shown_part (Err c) = refuse (number_of c)

@@ -1,5 +1,5 @@
 use Rattle.wire.proofs.FieldLaws.{field_laws}
-use Rattle.wire.proofs.answers.Cursor.end.Goals as goal
+use Rattle.wire.proofs.cursor.Cursor.end.Goals as goal
 
 pub returns-then-s-self : goal.returns-then-s-self
 returns-then-s-self c = search field_laws

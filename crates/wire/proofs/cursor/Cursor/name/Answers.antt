@@ -1,5 +1,5 @@
 use Rattle.wire.proofs.WalkLaws.{name_laws}
-use Rattle.wire.proofs.answers.Cursor.name.Goals as goal
+use Rattle.wire.proofs.cursor.Cursor.name.Goals as goal
 
 pub returns-then-list-at : goal.returns-then-list-at
 returns-then-list-at c = search name_laws
