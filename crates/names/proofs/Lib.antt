@@ -4,4 +4,5 @@ pub mod PlaceLaws
 pub mod TableLaws
 pub mod LookupLaws
 pub mod SpellLaws
+pub mod ConstantLaws
 pub mod UniqueLaws

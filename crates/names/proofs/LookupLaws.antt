@@ -8,9 +8,7 @@ use lib.Dec.{lit≤}
 use lib.ListN.{length}
 use Rattle.names.specs.declared.Kind.{Kind}
 use Rattle.names.specs.Tables.{names_of, all_names, first_row, kex_names, key_names, certificate_names, cipher_names, mac_names, compression_names}
-use Rattle.names.specs.declared.Row.{Row}
-use Rattle.names.specs.declared.Row.TheVariants.{At, Nowhere}
-use Rattle.names.specs.Lookup.{number_of, place_from, row_from, onward, found_row}
+use Rattle.names.specs.Lookup.{number_of, place_from, row_from, onward}
 use Rattle.names.proofs.ColumnLaws.{flat, starts, lengths, row_place}
 use Rattle.names.proofs.PlaceLaws.{place_from_lem}
 use Rattle.names.proofs.TableLaws.{kind_part, kind_rows, row_count, number_found}
@@ -38,40 +36,13 @@ kind_row k name from count p q =
 pub kind_room : (k : Kind) (from count : ℕ) → from ≡ first_row k → count ≡ length (names_of k) → from + count ≤ 44
 kind_room k from count p q = rw (p, q) (kind_rows k)
 
--- a row that was found, as a number
-record Numbered (first n : ℕ) (o : Option ℕ) : Type 0 where
-  from : first ≤ n
-  number : some (n - first) ≡ o
-
-numbered : (first n : ℕ) (o : Option ℕ) → some n ≡ onward first o → Numbered first n o
-numbered first n none h = let z : ◌≡◌ {A = ℕ} 0 1 = cc in absurd (omega arith)
-numbered first n (some m) h =
-    let e : n ≡ first + m = cc in
-    let d : n - first ≡ m = omega arith in
-    record { from = omega arith; number = ap some d }
-
-unnumbered : (first : ℕ) (o : Option ℕ) → none ≡ onward first o → none ≡ o
-unnumbered first none h = refl
-unnumbered first (some m) h = cc
-
--- what the code tells on its way: the row that was found, and the kind's first
-module _ (k : Kind) (name : List ℕ) (r : Row) (told : found_row r ≡ onward (first_row k) (number_of k name)) where
-  pub number_none : r ≡ Nowhere → none ≡ number_of k name
-  number_none e = unnumbered (first_row k) (number_of k name) (rw e at told)
-
-  module _ (first n : ℕ) (e : r ≡ At n) (at : first ≡ first_row k) where
-    there : Numbered (first_row k) n (number_of k name)
-    there = numbered (first_row k) n (number_of k name) (rw e at told)
-
-    pub number_from : first ≤ n
-    number_from = rw at there.from
-
-    pub number_is : some (n - first) ≡ number_of k name
-    number_is = rw at there.number
-
-    pub number_small : n - first < 256
-    number_small =
-        let b = (number_found k name (n - first) (sym number_is)).0 in
-        omega (arith, kind_rows k)
-
-pub ruleset number_laws = (number_none, number_from, number_is, number_small)
+-- the number of a row that was found fits a byte
+pub number_small : (k : Kind) (name : List ℕ) (first n : ℕ) → some n ≡ onward (first_row k) (number_of k name) → first ≡ first_row k → n - first < 256
+number_small k name first n row at =
+    elim number_of k name as (λ (o : Option ℕ). number_of k name ≡ o → some n ≡ onward (first_row k) o → n - first < 256) [
+      none ↦ λ e h. let z : ◌≡◌ {A = ℕ} 0 1 = cc in absurd (omega arith)
+      | some m ↦ λ e h.
+      let b = (number_found k name m e).0 in
+      let f : n ≡ first_row k + m = cc in
+      omega (arith, kind_rows k)
+    ] refl row

@@ -9,7 +9,7 @@ use Prim.Native.Nat.{ℕ, suc, ◌+◌, ◌-◌, ◌≤◌, ◌<◌}
 use native.Mathlib.Omega.{arith}
 use lib.Dec.{ltb, leb}
 use lib.ListN.{length, get_or, take, drop}
-use borrow.Author.Tests.{lt-ltb, le-ltb, ltb-true, ltb-false, leb-true}
+use borrow.Author.Tests.{lt-ltb, le-ltb, lt-leb, le-leb, ltb-true, ltb-false, leb-true, leb-false}
 use Rattle.answer.specs.Answer.{Out, refused, done, guard, refuse, ◌>>=◌}
 use Rattle.answer.proofs.Laws.{split, pass, stop}
 use Rattle.put.specs.Written.{written, buffer}
@@ -38,131 +38,50 @@ pub shown : (w : Out (List ℕ)) → there w ≡ true → w ≡ done (bytes_of w
 shown (refused r) h = absurd (false≢true h)
 shown (done x) h = refl
 
-none_there : (w : Out (List ℕ)) → false ≡ there w → [] ≡ bytes_of w
-none_there (refused r) h = refl
-none_there (done x) h = absurd (false≢true h)
-
 module _ (spellings starts lengths : List ℕ) (n : ℕ) where
   abbrev ends : Bool
   ends = leb (get_or starts n 0 + get_or lengths n 0) (length spellings)
 
-  abbrev spelt : List ℕ
-  spelt = take (get_or lengths n 0) (drop (get_or starts n 0) spellings)
-
-  out_starts : length starts ≤ n → row_name spellings starts lengths n ≡ refuse 9
+  -- one law for each answer of the code
+  pub out_starts : length starts ≤ n → refuse 9 ≡ row_name spellings starts lengths n
   unfolding row_name ◌>>=◌
   out_starts h = rw (entry_out 0 starts n h)
 
-  out_lengths : n < length starts → length lengths ≤ n → row_name spellings starts lengths n ≡ refuse 9
-  unfolding row_name ◌>>=◌
-  out_lengths g h = rw (entry_in 0 starts n g, entry_out 0 lengths n h)
+  module _ (g : n < length starts) where
+    pub out_lengths : length lengths ≤ n → refuse 9 ≡ row_name spellings starts lengths n
+    unfolding row_name ◌>>=◌
+    out_lengths h = rw (entry_in 0 starts n g, entry_out 0 lengths n h)
 
-  in_both : n < length starts → n < length lengths → row_name spellings starts lengths n ≡ (guard 9 ends >>= (λ _. done spelt))
-  unfolding row_name ◌>>=◌
-  in_both g h = rw (entry_in 0 starts n g, entry_in 0 lengths n h)
+    module _ (h : n < length lengths) (s l : ℕ) (p : s ≡ get_or starts n 0) (q : l ≡ get_or lengths n 0) where
+      in_both : row_name spellings starts lengths n ≡ (guard 9 (leb (s + l) (length spellings)) >>= (λ _. done (take l (drop s spellings))))
+      unfolding row_name ◌>>=◌
+      in_both = rw (entry_in 0 starts n g, entry_in 0 lengths n h, p, q)
 
-  -- a row that spells something
-  record Inside : Type 0 where
-    start : n < length starts
-    len : n < length lengths
-    end : get_or starts n 0 + get_or lengths n 0 ≤ length spellings
-    name : row_name spellings starts lengths n ≡ done spelt
+      pub out_spellings : length spellings < s + l → refuse 9 ≡ row_name spellings starts lengths n
+      out_spellings o = sym (in_both ∙ stop 9 _ _ (lt-leb (s + l) (length spellings) o))
 
-  row_either : (row_name spellings starts lengths n ≡ refuse 9) ⊎ Inside
-  row_either =
-      split (ltb n (length starts))
-      (λ e. let g = ltb-true n (length starts) e in
-      split (ltb n (length lengths))
-      (λ f. let k = ltb-true n (length lengths) f in
-      split ends
-      (λ o. inr (record { start = g; len = k; end = leb-true _ _ o; name = in_both g k ∙ pass 9 ends (λ _. done spelt) o }))
-      (λ o. inl (in_both g k ∙ stop 9 ends (λ _. done spelt) o)))
-      (λ f. inl (out_lengths g (ltb-false n (length lengths) f))))
-      (λ e. inl (out_starts (ltb-false n (length starts) e)))
+      pub in_spellings : s + l ≤ length spellings → done (take (s + l - s) (drop s spellings)) ≡ row_name spellings starts lengths n
+      in_spellings o =
+          let e : s + l - s ≡ l = omega arith in
+          rw e (sym (in_both ∙ pass 9 _ _ (le-leb (s + l) (length spellings) o)))
 
-  pub outside_starts : length starts ≤ n → false ≡ there (row_name spellings starts lengths n)
-  outside_starts h = rw (out_starts h)
+pub ruleset spelling_laws = (out_starts, out_lengths, out_spellings, in_spellings)
 
-  pub outside_lengths : n < length starts → length lengths ≤ n → false ≡ there (row_name spellings starts lengths n)
-  outside_lengths g h = rw (out_lengths g h)
-
-  there_guard : (b : Bool) → b ≡ there (guard 9 b >>= (λ _. done spelt))
-  unfolding ◌>>=◌
-  there_guard true = refl
-  there_guard false = refl
-
-  pub ends_inside : (a b : ℕ) → a ≡ get_or starts n 0 → b ≡ get_or lengths n 0 → n < length starts → n < length lengths
-      → leb (a + b) (length spellings) ≡ there (row_name spellings starts lengths n)
-  ends_inside a b p q g h = rw (in_both g h, p, q) (there_guard ends)
-
-  -- a row outside is refused with 9
-  pub row_outside : there (row_name spellings starts lengths n) ≡ false → row_name spellings starts lengths n ≡ refuse 9
-  row_outside h = ⊎_elim (λ o. o) (λ i. absurd (false≢true (sym h ∙ ap there i.name))) row_either
-
-  module _ (b : Bool) (tested : b ≡ there (row_name spellings starts lengths n)) where
-    at_inside : b ≡ true → Inside
-    at_inside h =
-        ⊎_elim (λ o. absurd (false≢true (ap there (sym o) ∙ sym tested ∙ h))) (λ i. i) row_either
-
-    at_outside : b ≡ false → row_name spellings starts lengths n ≡ refuse 9
-    at_outside h = row_outside (sym tested ∙ h)
-
-    pub inside_starts : b ≡ true → n < length starts
-    inside_starts h = (at_inside h).start
-
-    pub inside_lengths : b ≡ true → n < length lengths
-    inside_lengths h = (at_inside h).len
-
-    pub inside_spellings : (s l : ℕ) → s ≡ get_or starts n 0 → l ≡ get_or lengths n 0 → b ≡ true → s + l ≤ length spellings
-    inside_spellings s l p q h = rw (p, q) (at_inside h).end
-
-    pub inside_spelling : (s l : ℕ) → s ≡ get_or starts n 0 → l ≡ get_or lengths n 0 → b ≡ true
-        → take (s + l - s) (drop s spellings) ≡ bytes_of (row_name spellings starts lengths n)
-    inside_spelling s l p q h =
-        let e : get_or starts n 0 + get_or lengths n 0 - get_or starts n 0 ≡ get_or lengths n 0 = omega arith in
-        rw (p, q, e, (at_inside h).name)
-
-    pub outside_spelling : b ≡ false → [] ≡ bytes_of (row_name spellings starts lengths n)
-    outside_spelling h = none_there (row_name spellings starts lengths n) (sym h ∙ tested)
-
-    -- what is put of a row, and that a row outside puts nothing
-    module _ (out : List ℕ) (at : ℕ) where
-      pub row_written : (x : List ℕ) (p : Out ℕ) → b ≡ true → x ≡ bytes_of (row_name spellings starts lengths n)
-          → p ≡ written out at (done x) → p ≡ written out at (row_name spellings starts lengths n)
-      row_written x p h e w = rw (shown (row_name spellings starts lengths n) (sym tested ∙ h), ← e) w
-
-      pub row_buffer : (x out' : List ℕ) → b ≡ true → x ≡ bytes_of (row_name spellings starts lengths n)
-          → out' ≡ buffer out at (done x) → out' ≡ buffer out at (row_name spellings starts lengths n)
-      row_buffer x out' h e w = rw (shown (row_name spellings starts lengths n) (sym tested ∙ h), ← e) w
-
-      pub row_refused : b ≡ false → refuse 9 ≡ written out at (row_name spellings starts lengths n)
-      unfolding written ◌>>=◌
-      row_refused h = rw (at_outside h)
-
-      pub row_kept : b ≡ false → out ≡ buffer out at (row_name spellings starts lengths n)
-      unfolding buffer
-      row_kept h = rw (at_outside h)
-
-pub ruleset inside_laws = (outside_starts, outside_lengths, ends_inside)
-
-pub ruleset put_row_laws = (row_written, row_buffer, row_refused, row_kept)
-
-pub ruleset spelling_laws = (inside_starts, inside_lengths, inside_spellings, inside_spelling, outside_spelling)
-
-module _ (w : Out (List ℕ)) (name : List ℕ) (b : Bool) (tested : b ≡ there w) where
-  pub spells_outside : b ≡ false → false ≡ is w name
-  spells_outside h = outside w (sym h ∙ tested)
-    where
-      outside : (v : Out (List ℕ)) → false ≡ there v → false ≡ is v name
-      outside (refused r) e = refl
-      outside (done x) e = absurd (false≢true e)
-
-  pub spells_inside : (x : List ℕ) (r : Bool) → b ≡ true → x ≡ bytes_of w → r ≡ same x name → r ≡ is w name
-  spells_inside x r h e s = s ∙ ap (λ (y : List ℕ). same y name) e ∙ inside w (sym tested ∙ h)
-    where
-      inside : (v : Out (List ℕ)) → there v ≡ true → same (bytes_of v) name ≡ is v name
-      inside (refused q) e = absurd (false≢true e)
-      inside (done y) e = refl
+-- a row outside is refused with 9
+pub row_outside : (spellings starts lengths : List ℕ) (n : ℕ) → there (row_name spellings starts lengths n) ≡ false
+    → row_name spellings starts lengths n ≡ refuse 9
+row_outside spellings starts lengths n h =
+    split (ltb n (length starts))
+    (λ e. let g = ltb-true n (length starts) e in
+    split (ltb n (length lengths))
+    (λ f. let k = ltb-true n (length lengths) f in
+    split (leb (get_or starts n 0 + get_or lengths n 0) (length spellings))
+    (λ o.
+    let s = in_spellings spellings starts lengths n g k _ _ refl refl (leb-true _ _ o) in
+    absurd (false≢true (sym (rw (← s) at h))))
+    (λ o. sym (out_spellings spellings starts lengths n g k _ _ refl refl (leb-false _ _ o))))
+    (λ f. sym (out_lengths spellings starts lengths n g (ltb-false n (length lengths) f))))
+    (λ e. sym (out_starts spellings starts lengths n (ltb-false n (length starts) e)))
 
 -- the walk over the rows: what is left still gives the answer
 module _ (spellings starts lengths name : List ℕ) (i to : ℕ) (whole : Option ℕ)

@@ -1,3 +1,5 @@
 pub mod Tables
+pub mod Numbered
 pub mod Spelled
+pub mod Constant
 pub mod Lookup

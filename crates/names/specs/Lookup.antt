@@ -1,14 +1,10 @@
 -- Looking a name up. Over the lists of names: the first place of a name. Over any three columns, spellings, starts and
 -- lengths, as the code has them: the first row from one place on that spells the name.
-use Rattle.std.specs.Prelude.{Bool, false, List, [], ◌∷◌, ℕ, suc, zero, ◌+◌}
+use Rattle.std.specs.Prelude.{Bool, false, List, [], ◌∷◌, ℕ, suc, zero, ◌+◌, Option as Maybe, Some, None}
 use Rattle.std.proofs.Math.Option.{Option, some, none}
 use Rattle.answer.specs.Answer.{Out, refused, done, pick}
 use Rattle.text.specs.Same.{same}
 use Rattle.names.specs.declared.Kind.{Kind}
-use Rattle.names.specs.declared.Found.{Found}
-use Rattle.names.specs.declared.Found.TheVariants.{Number, Unknown}
-use Rattle.names.specs.declared.Row.{Row}
-use Rattle.names.specs.declared.Row.TheVariants.{At, Nowhere}
 use Rattle.names.specs.Tables.{names_of}
 use Rattle.names.specs.Spelled.{row_name}
 
@@ -37,12 +33,7 @@ module _ (spellings starts lengths : List ℕ) where
   row_from name i zero = none
   row_from name i (suc n) = pick (is (row_name spellings starts lengths i) name) (some i) (row_from name (i + 1) n)
 
--- what a `Found` means
-abbrev pub found : Found → Option ℕ
-found (Number n) = some n
-found Unknown = none
-
--- what a `Row` means
-abbrev pub found_row : Row → Option ℕ
-found_row (At n) = some n
-found_row Nowhere = none
+-- what a look-up answers means
+abbrev pub found : Maybe ℕ → Option ℕ
+found (Some n) = some n
+found None = none

@@ -1,9 +1,9 @@
 -- Spelling: a number's name. "A local number outside its table" is 9 (document 01).
-use Rattle.std.specs.Prelude.{Bool, true, false, List, [], ℕ, ◌+◌, ltb, leb, length, get_or, take, drop}
-use Rattle.answer.specs.Answer.{Out, refused, done, refuse, guard, ◌>>=◌}
+use Rattle.std.specs.Prelude.{Bool, true, false, List, [], ℕ, ◌+◌, ltb, leb, length, get_or, take, drop, Result}
+use Rattle.answer.specs.declared.Cause.{Cause}
+use Rattle.answer.specs.Answer.{Out, refused, done, guard, answered, ◌>>=◌}
 use Rattle.names.specs.declared.Kind.{Kind}
-use Rattle.names.specs.declared.Flag.{Flag}
-use Rattle.names.specs.declared.Flag.TheVariants.{Is, Refused}
+use Rattle.names.specs.declared.rows.Columns.{Columns}
 use Rattle.names.specs.Tables.{names_of, need_mac, built_in}
 
 -- what stands at a place of a table; the default is never seen
@@ -28,15 +28,18 @@ row_name spellings starts lengths n = do
   _ ← guard 9 (leb (start + len) (length spellings))
   done (take len (drop start spellings))
 
+-- by the columns that were lent
+abbrev pub spelled_by : Columns → ℕ → Out (List ℕ)
+spelled_by t n = row_name t.spellings.now t.starts.now t.lengths.now n
+
 -- a name is there
 abbrev pub there : Out (List ℕ) → Bool
 there (refused r) = false
 there (done x) = true
 
--- what a `Flag` means
-abbrev pub flag : Flag → Out Bool
-flag (Is b) = done b
-flag (Refused n) = refuse n
+-- what a column of bools answers means
+abbrev pub flag : Result Bool Cause → Out Bool
+flag r = answered r
 
 abbrev pub needs_mac : ℕ → Out Bool
 needs_mac n = entry false need_mac n

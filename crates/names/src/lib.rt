@@ -7,6 +7,9 @@
 ghost use Rattle.std.specs.Prelude.{◌≡◌, length};
 ghost use Rattle.names.specs.Tables.{names_of, first_row};
 ghost use Rattle.names.specs.Spelled.{flag, needs_mac, built_in_integrity};
+ghost use Rattle.names.specs.Numbered.{Numbers};
+
+use answer::Cause;
 
 mod numbers;
 mod rows;
@@ -14,7 +17,7 @@ mod spell;
 pub mod tables;
 
 pub use numbers::lookup;
-pub use rows::{find, inside, put_row, spelling, spells, wide};
+pub use rows::Columns;
 pub use spell::put_name;
 
 // The rows at which the kinds start in the one table; the kex names stand first.
@@ -29,23 +32,23 @@ pub const FIRST_MAC: u8 = 38;
 pub const FIRST_COMPRESSION: u8 = 43;
 
 // "Each kind of number has a type of its own, so a MAC number can't be used as a cipher number."
-#[derive(Clone, Copy)]
+#[derive(Clone, Copy, Debug, PartialEq, Eq)]
 pub struct KexId(pub u8);
 
-#[derive(Clone, Copy)]
+#[derive(Clone, Copy, Debug, PartialEq, Eq)]
 pub struct KeyId(pub u8);
 
-#[derive(Clone, Copy)]
+#[derive(Clone, Copy, Debug, PartialEq, Eq)]
 pub struct CipherId(pub u8);
 
-#[derive(Clone, Copy)]
+#[derive(Clone, Copy, Debug, PartialEq, Eq)]
 pub struct MacId(pub u8);
 
-#[derive(Clone, Copy)]
+#[derive(Clone, Copy, Debug, PartialEq, Eq)]
 pub struct CompressionId(pub u8);
 
 // Whose table a number counts in. A certificate's number is its key's.
-#[derive(Clone, Copy)]
+#[derive(Clone, Copy, Debug, PartialEq, Eq)]
 pub enum Kind {
     Kex,
     Key,
@@ -55,27 +58,6 @@ pub enum Kind {
     Compression,
 }
 
-// A name's number, or that the kind has no such name.
-#[derive(Clone, Copy)]
-pub enum Found {
-    Number(u8),
-    Unknown,
-}
-
-// A name's row, or that no row spells it.
-#[derive(Clone, Copy)]
-pub enum Row {
-    At(usize),
-    Nowhere,
-}
-
-// What a column of the table says, or the number of the refusal.
-#[derive(Clone, Copy)]
-pub enum Flag {
-    Is(bool),
-    Refused(u8),
-}
-
 impl Kind {
     // The row at which the kind's names start.
     pub fn first_row(self) -> usize
@@ -83,11 +65,11 @@ impl Kind {
     {
         match self {
             Kind::Kex => 0,
-            Kind::Key => FIRST_KEY as usize,
-            Kind::Certificate => FIRST_CERTIFICATE as usize,
-            Kind::Cipher => FIRST_CIPHER as usize,
-            Kind::Mac => FIRST_MAC as usize,
-            Kind::Compression => FIRST_COMPRESSION as usize,
+            Kind::Key => usize::from(FIRST_KEY),
+            Kind::Certificate => usize::from(FIRST_CERTIFICATE),
+            Kind::Cipher => usize::from(FIRST_CIPHER),
+            Kind::Mac => usize::from(FIRST_MAC),
+            Kind::Compression => usize::from(FIRST_COMPRESSION),
         }
     }
 
@@ -105,14 +87,34 @@ impl Kind {
     }
 }
 
+// A kind by its number, as include/harupesat.h counts them.
+impl TryFrom<u8> for Kind {
+    type Error = Cause;
+
+    ghost try_from_gives = { Numbers };
+
+    #[tactic(auto, unfolding(crate::specs::Numbered::kind_of))]
+    fn try_from(number: u8) -> Result<Kind, Cause> {
+        match number {
+            0 => Ok(Kind::Kex),
+            1 => Ok(Kind::Key),
+            2 => Ok(Kind::Certificate),
+            3 => Ok(Kind::Cipher),
+            4 => Ok(Kind::Mac),
+            5 => Ok(Kind::Compression),
+            _ => Err(Cause::BadTable),
+        }
+    }
+}
+
 impl CipherId {
-    pub fn needs_mac(self) -> Flag
+    pub fn needs_mac(self) -> Result<bool, Cause>
         ensures { flag result ≡ needs_mac self.0 }
     {
         rows::flag_at(&tables::NEEDS_MAC, self.0)
     }
 
-    pub fn built_in_integrity(self) -> Flag
+    pub fn built_in_integrity(self) -> Result<bool, Cause>
         ensures { flag result ≡ built_in_integrity self.0 }
     {
         rows::flag_at(&tables::BUILT_IN, self.0)

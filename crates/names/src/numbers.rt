@@ -4,32 +4,22 @@
 // lent slices and tables of numbers.
 ghost use Rattle.std.specs.Prelude.{◌≡◌};
 ghost use Rattle.names.specs.Tables.{first_row};
-ghost use Rattle.names.specs.Lookup.{number_of, found, found_row, onward};
+ghost use Rattle.names.specs.Lookup.{number_of, found, onward};
 
-use super::{Found, Kind, Row, rows, tables};
+use super::{Kind, tables};
 
 // The row of a name of a kind.
-fn row_of(kind: Kind, name: &[u8]) -> Row
-    ensures { found_row result ≡ onward (first_row kind) (number_of kind name.now) }
+fn row_of(kind: Kind, name: &[u8]) -> Option<usize>
+    ensures { found result ≡ onward (first_row kind) (number_of kind name.now) }
 {
     let from = kind.first_row();
     let to = from + kind.count();
-    rows::find(
-        &tables::SPELLINGS,
-        &tables::STARTS,
-        &tables::LENGTHS,
-        from,
-        to,
-        name,
-    )
+    tables::columns().find(from, to, name)
 }
 
-pub fn lookup(kind: Kind, name: &[u8]) -> Found
+pub fn lookup(kind: Kind, name: &[u8]) -> Option<u8>
     ensures { found result ≡ number_of kind name.now }
 {
-    let at = row_of(kind, name);
-    let Row::At(n) = at else {
-        return Found::Unknown;
-    };
-    Found::Number((n - kind.first_row()) as u8)
+    let row = row_of(kind, name)?;
+    Some((row - kind.first_row()) as u8)
 }

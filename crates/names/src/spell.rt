@@ -6,25 +6,17 @@ ghost use Rattle.std.specs.Prelude.{◌≡◌};
 ghost use Rattle.put.specs.Written.{written, buffer, put};
 ghost use Rattle.names.specs.Spelled.{spelled};
 
-use super::{Kind, rows, tables};
-use answer::BAD_TABLE;
-use put::Put;
+use super::{Kind, tables};
+use answer::Cause;
 
-pub fn put_name(kind: Kind, number: u8, out: &mut [u8], at: usize) -> Put
+pub fn put_name(kind: Kind, number: u8, out: &mut [u8], at: usize) -> Result<usize, Cause>
     ensures answer { put result ≡ written out.old at (spelled kind number) }
     ensures bytes { out.new ≡ buffer out.old at (spelled kind number) }
 {
-    let n = rows::wide(number);
+    let n = usize::from(number);
     if kind.count() <= n {
-        return Put::Refused(BAD_TABLE);
+        return Err(Cause::BadTable);
     }
     let row = kind.first_row() + n;
-    rows::put_row(
-        &tables::SPELLINGS,
-        &tables::STARTS,
-        &tables::LENGTHS,
-        row,
-        out,
-        at,
-    )
+    tables::columns().put_row(row, out, at)
 }

@@ -3,6 +3,21 @@
 //
 // Copyright 2016 Pierre-Étienne Meunier, licensed under the Apache License, Version 2.0 (NOTICE); changed: rewritten for
 // lent slices and tables of numbers.
+ghost use Rattle.names.specs.Constant.{AreConstant};
+
+use super::Columns;
+
+// The constant columns, lent.
+pub fn columns() -> Columns<'static>
+    ensures { AreConstant result }
+{
+    Columns {
+        spellings: &SPELLINGS,
+        starts: &STARTS,
+        lengths: &LENGTHS,
+    }
+}
+
 pub const SPELLINGS: [u8; 902] = *b"\
     mlkem768x25519-sha256\
     curve25519-sha256\

@@ -4,8 +4,13 @@ use mathlib.Core.List.{List}
 use Prim.Native.Nat.{ℕ, ◌+◌, ◌≤◌, ◌<◌}
 use lib.ListN.{length}
 use lib.Seq.{sets}
+use Rattle.std.specs.Prelude.{Result}
+use Rattle.std.specs.Result.{IsErr, IsErrAnd}
+use Rattle.std.proofs.lemmas.Result.{err_from_is_err_and}
+use Rattle.answer.specs.declared.Cause.{Cause}
+use Rattle.answer.specs.Refusal.{number}
 use Rattle.answer.specs.Answer.{Out, done, refuse, ◌>>=◌}
-use Rattle.put.specs.Written.{written, buffer}
+use Rattle.put.specs.Written.{written, buffer, put}
 use Rattle.put.proofs.PutLaws.{written_fits, written_full, buffer_fits, buffer_full}
 
 abbrev pub Puts : List ℕ → ℕ → Out (List ℕ) → Out ℕ → List ℕ → Type 0
@@ -20,6 +25,10 @@ module _ (out : List ℕ) (at : ℕ) (what : Out (List ℕ)) where
   pub refused_put : (n : ℕ) → what ≡ refuse n → Puts out at what (refuse n) out
   unfolding written buffer ◌>>=◌
   refused_put n e = rw e (refl, refl)
+
+  -- handed on by a `?`
+  pub handed_put : (e : Cause) (r : Result ℕ Cause) → IsErr r × IsErrAnd r (λ y. y ≡ e) → what ≡ refuse (number e) → Puts out at what (put r) out
+  handed_put e r h k = let p = err_from_is_err_and r h.1 in rw (p.1, p.2) (refused_put (number e) k)
 
   pub full_put : (x : List ℕ) → what ≡ done x → length out < at + length x → Puts out at what (refuse 8) out
   full_put x e h = rw e (rw (written_full out at x h), rw (buffer_full out at x h))

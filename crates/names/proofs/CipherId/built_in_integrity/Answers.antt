@@ -1,4 +1,4 @@
--- `names::CipherId::built_in_integrity`: the constant column computes to the definition's. Assumes nothing.
+-- The constant column computes to the definition's. Assumes nothing.
 use Rattle.names.specs.Tables.{built_in, cipher_names}
 use Rattle.names.proofs.CipherId.built_in_integrity.Goals as goal
 

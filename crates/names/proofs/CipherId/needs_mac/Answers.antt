@@ -1,4 +1,4 @@
--- `names::CipherId::needs_mac`: the constant column computes to the definition's. Assumes nothing.
+-- The constant column computes to the definition's. Assumes nothing.
 use Rattle.names.specs.Tables.{need_mac, cipher_names}
 use Rattle.names.proofs.CipherId.needs_mac.Goals as goal
 

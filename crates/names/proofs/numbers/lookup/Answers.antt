@@ -1,15 +1,6 @@
--- `names::numbers::lookup`: a row less the kind's first is the number. Assumes nothing.
-use Rattle.names.proofs.LookupLaws.{number_laws}
+use Rattle.names.proofs.LookupLaws.{number_small}
 use Rattle.names.proofs.numbers.lookup.Goals as goal
 
-pub returns-in_default : goal.returns-in_default
-returns-in_default c = search number_laws
-
-pub overflow_sub-result : goal.overflow_sub-result
-overflow_sub-result c = search number_laws
-
+-- a kind has fewer rows than a byte can count
 pub overflow_cast-result : goal.overflow_cast-result
-overflow_cast-result c = record { fits = search number_laws }
-
-pub returns : goal.returns
-returns c = search number_laws
+overflow_cast-result c = record { fits = number_small _ _ _ _ c.in_ok-row.ensures c.first_row.ensures }
