@@ -37,12 +37,13 @@ pub kind_room : (k : Kind) (from count : ℕ) → from ≡ first_row k → count
 kind_room k from count p q = rw (p, q) (kind_rows k)
 
 -- the number of a row that was found fits a byte
-pub number_small : (k : Kind) (name : List ℕ) (first n : ℕ) → some n ≡ onward (first_row k) (number_of k name) → first ≡ first_row k → n - first < 256
-number_small k name first n row at =
-    elim number_of k name as (λ (o : Option ℕ). number_of k name ≡ o → some n ≡ onward (first_row k) o → n - first < 256) [
-      none ↦ λ e h. let z : ◌≡◌ {A = ℕ} 0 1 = cc in absurd (omega arith)
-      | some m ↦ λ e h.
+module _ (k : Kind) (name : List ℕ) (first n : ℕ) (at : first ≡ first_row k) where
+  small : (o : Option ℕ) → number_of k name ≡ o → some n ≡ onward (first_row k) o → n - first < 256
+  small none e h = let z : ◌≡◌ {A = ℕ} 0 1 = cc in absurd (omega arith)
+  small (some m) e h =
       let b = (number_found k name m e).0 in
       let f : n ≡ first_row k + m = cc in
       omega (arith, kind_rows k)
-    ] refl row
+
+  pub number_small : some n ≡ onward (first_row k) (number_of k name) → n - first < 256
+  number_small h = small (number_of k name) refl h

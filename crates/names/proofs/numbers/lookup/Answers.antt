@@ -3,4 +3,4 @@ use Rattle.names.proofs.numbers.lookup.Goals as goal
 
 -- a kind has fewer rows than a byte can count
 pub overflow_cast-result : goal.overflow_cast-result
-overflow_cast-result c = record { fits = number_small _ _ _ _ c.in_ok-row.ensures c.first_row.ensures }
+overflow_cast-result c = record { fits = number_small _ _ _ _ c.first_row.ensures c.in_ok-row.ensures }
