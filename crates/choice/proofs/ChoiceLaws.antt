@@ -13,13 +13,13 @@ use Rattle.text.specs.Same.{same}
 use Rattle.text.proofs.SameLaws.{same_self, same_equal}
 use Rattle.commas.specs.Cut.{every}
 use Rattle.names.specs.Tables.{all_names}
+use Rattle.std.specs.Prelude.{Option as Maybe}
 use Rattle.names.proofs.RowLaws.{entry_in}
+use Rattle.names.proofs.UniqueLaws.{found_unique}
 use Rattle.names.proofs.ColumnLaws.{flat, starts, lengths, row_name_lem}
 use Rattle.names.proofs.TableLaws.{row_count}
 use Rattle.choice.specs.declared.Side.{Side}
 use Rattle.choice.specs.declared.Side.TheVariants.{Client, Server}
-use Rattle.choice.specs.declared.Chosen.{Chosen}
-use Rattle.choice.specs.declared.Chosen.TheVariants.{Row, Nothing}
 use Rattle.choice.specs.Choice.{first, listed, kept, first_shared, chosen, both_first}
 use Rattle.choice.specs.Rows.{offered, row_for, own_first, peer_first, chosen_row, first_both, spells_in, spells_name, row_spelled, spelled_rows, chose}
 use Rattle.choice.proofs.FirstLaws.{first_among, first_kept, first_map, first_same}
@@ -80,11 +80,8 @@ both_is side (a ∷ own) (b ∷ peer) h =
     rw e (record { name = b; own_rest = own; peer_rest = peer; own_starts = refl; peer_starts = refl; is_chosen = starts_chosen side b own peer })
 
 -- no two answers have one meaning
-pub chose_unique : (a b : Chosen) → chose a ≡ chose b → a ≡ b
-chose_unique (Row r) (Row s) e = cc
-chose_unique (Row r) Nothing e = cc
-chose_unique Nothing (Row s) e = cc
-chose_unique Nothing Nothing e = refl
+pub chose_unique : (a b : Maybe ℕ) → chose a ≡ chose b → a ≡ b
+chose_unique a b e = found_unique a b e
 
 either : {G : Type 0} (o q : Option ℕ) (r : ℕ) → or_else o q ≡ some r → (o ≡ some r → G) → (q ≡ some r → G) → G
 unfolding or_else

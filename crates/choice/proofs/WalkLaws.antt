@@ -1,6 +1,8 @@
 -- What the code's tests and calls say on the way, one law for each answer. Assumes nothing.
 use mathlib.Core.Path.{◌≡◌, refl, sym, ◌∙◌}
 use mathlib.Core.Bool.{Bool, true, false}
+use lib.Dec.{eqb}
+use borrow.Author.Tests.{eqb-true, eqb-false}
 use mathlib.Core.List.{List, [], ◌∷◌}
 use mathlib.Core.Option.{Option, some, none, or_else}
 use Prim.Native.Nat.{ℕ, ◌+◌, ◌≤◌, ◌<◌}
@@ -11,8 +13,7 @@ use lib.ListN.{length, get_or, take, drop}
 use lib.Seq.{drop-cons, drop-length, take-take, take-length, length-take-le}
 use Rattle.wire.specs.declared.cursor.Cursor.{Cursor}
 use Rattle.wire.specs.declared.place.Place.{Place}
-use Rattle.wire.specs.declared.answers.NextName.{NextName}
-use Rattle.wire.specs.declared.answers.NextName.TheVariants.{Name, NoMore}
+use Rattle.std.specs.Prelude.{Option as Maybe, Some, None}
 use Rattle.wire.specs.Fields.{here}
 use Rattle.commas.specs.Cut.{cut}
 use Rattle.wire.specs.Walk.{next_name}
@@ -29,22 +30,22 @@ pub ruleset row_laws = (row_in, row_out)
 
 -- the walk over the own rows
 module _ (spells : ℕ → List ℕ → Bool) (own name : List ℕ) (whole i : ℕ) (left : whole ≡ i + place_of spells (drop i own) name) where
-  pub place_over : length own ≤ i → i ≤ length own → i ≡ whole
+  pub place_over : length own ≤ i → i ≤ length own → length own ≡ whole
   unfolding place_of
   place_over h k =
       let e : i ≡ length own = omega arith in
       let d : drop i own ≡ [] = rw e (drop-length own) in
-      sym (rw (d, add-zero i) at left)
+      sym (rw (d, add-zero i, e) at left)
 
-  module _ (h : i < length own) (b : Bool) (tested : b ≡ spells (get_or own i 0) name) where
+  module _ (h : i < length own) (b : Bool) (r : ℕ) (tested : b ≡ spells r name) (row : r ≡ get_or own i 0) where
     pub place_here : b ≡ true → i ≡ whole
     unfolding place_of
-    place_here t = sym (rw (drop-cons own i 0 h, ← tested, t, add-zero i) at left)
+    place_here t = sym (rw (drop-cons own i 0 h, ← row, ← tested, t, add-zero i) at left)
 
     pub place_on : b ≡ false → whole ≡ (i + 1) + place_of spells (drop (i + 1) own) name
     unfolding place_of
     place_on t =
-        let d = rw (drop-cons own i 0 h, ← tested, t) at left in
+        let d = rw (drop-cons own i 0 h, ← row, ← tested, t) at left in
         rw add-one (omega arith)
 
 pub ruleset place_laws = (place_over, place_here, place_on)
@@ -57,20 +58,20 @@ pub own_count : (own : List ℕ) (best : ℕ) → best ≤ length own → best �
 own_count own best h = sym (length-take-le best own h)
 
 -- a step of the walk over the peer's names
-module _ (s : List ℕ) (i : ℕ) (r : NextName) (told : next_of s r ≡ next_name (here s i)) where
-  no_more : r ≡ NoMore → cut (drop i s) ≡ []
+module _ (s : List ℕ) (i : ℕ) (r : Maybe (Place × Cursor)) (told : next_of s r ≡ next_name (here s i)) where
+  no_more : r ≡ None → cut (drop i s) ≡ []
   no_more e = walk_end (here s i) (sym (rw e at told))
 
-  one_more : (p : Place) (c : Cursor) (name : List ℕ) → r ≡ Name p c → name ≡ part p s → cut (drop i s) ≡ name ∷ cut (drop c.at s)
+  one_more : (p : Place) (c : Cursor) (name : List ℕ) → r ≡ Some (p, c) → name ≡ part p s → cut (drop i s) ≡ name ∷ cut (drop c.at s)
   one_more p c name e f = rw f (names_left s i r told p c e)
 
   module _ (spells : ℕ → List ℕ → Bool) (own : List ℕ) where
     module _ (whole : Option ℕ) (inv : whole ≡ peer_first spells own (cut (drop i s))) where
-      pub peer_none : r ≡ NoMore → none ≡ whole
+      pub peer_none : r ≡ None → none ≡ whole
       unfolding peer_first
       peer_none e = rw (inv, no_more e)
 
-      module _ (p : Place) (c : Cursor) (name : List ℕ) (e : r ≡ Name p c) (f : name ≡ part p s) (k : ℕ)
+      module _ (p : Place) (c : Cursor) (name : List ℕ) (e : r ≡ Some (p, c)) (f : name ≡ part p s) (k : ℕ)
           (at : k ≡ place_of spells own name) where
         pub peer_here : k < length own → some (get_or own k 0) ≡ whole
         unfolding peer_first row_for or_else
@@ -82,11 +83,11 @@ module _ (s : List ℕ) (i : ℕ) (r : NextName) (told : next_of s r ≡ next_na
 
     module _ (names : List (List ℕ)) (best : ℕ) (b : best ≤ length own)
         (inv : place_of (offered spells) own names ≡ place_of (offered spells) (take best own) (cut (drop i s))) where
-      pub own_done : (v : Option ℕ) → r ≡ NoMore → v ≡ row_at own best → v ≡ own_first spells own names
+      pub own_done : (v : Option ℕ) → r ≡ None → v ≡ row_at own best → v ≡ own_first spells own names
       unfolding own_first
       own_done v e h = rw (h, first_at, inv, no_more e, place_none, length-take-le best own b)
 
-      module _ (p : Place) (c : Cursor) (name : List ℕ) (e : r ≡ Name p c) (f : name ≡ part p s) (k : ℕ)
+      module _ (p : Place) (c : Cursor) (name : List ℕ) (e : r ≡ Some (p, c)) (f : name ≡ part p s) (k : ℕ)
           (at : k ≡ place_of spells (take best own) name) where
         nearer : k ≤ best
         nearer = rw at (let h = place_within spells name (take best own) in rw length-take-le at h)
@@ -103,8 +104,8 @@ module _ (s : List ℕ) (i : ℕ) (r : NextName) (told : next_of s r ≡ next_na
         own_best v z h = rw (h, first_at, own_on, z)
 
 -- both first, at the list's first name
-module _ (s own : List ℕ) (spells : ℕ → List ℕ → Bool) (r : NextName) (told : next_of s r ≡ next_name (here s 0)) where
-  pub both_unlisted : r ≡ NoMore → false ≡ first_both spells own (cut s)
+module _ (s own : List ℕ) (spells : ℕ → List ℕ → Bool) (r : Maybe (Place × Cursor)) (told : next_of s r ≡ next_name (here s 0)) where
+  pub both_unlisted : r ≡ None → false ≡ first_both spells own (cut s)
   unfolding first_both
   both_unlisted e = rw (no_more s 0 r told e) (none_first own)
     where
@@ -112,18 +113,19 @@ module _ (s own : List ℕ) (spells : ℕ → List ℕ → Bool) (r : NextName) 
       none_first [] = refl
       none_first (x ∷ o) = refl
 
-  pub both_unowned : length own ≡ 0 → false ≡ first_both spells own (cut s)
+  pub both_unowned : (b : Bool) → b ≡ eqb (length own) 0 → b ≡ true → false ≡ first_both spells own (cut s)
   unfolding first_both
-  both_unowned h = none_own own h
+  both_unowned b e t = none_own own (eqb-true (length own) 0 (rw e at t))
     where
       none_own : (o : List ℕ) → length o ≡ 0 → false ≡ first_both spells o (cut s)
       none_own [] e = refl
       none_own (x ∷ o) e = absurd (omega arith)
 
-  pub both_firsts : (p : Place) (c : Cursor) (name : List ℕ) (b : Bool) → r ≡ Name p c → name ≡ part p s → (length own ≡ 0 → ⊥)
-      → b ≡ spells (get_or own 0 0) name → b ≡ first_both spells own (cut s)
+  pub both_firsts : (p : Place) (c : Cursor) (name : List ℕ) (b z : Bool) (row : ℕ) → r ≡ Some (p, c) → name ≡ part p s
+      → z ≡ eqb (length own) 0 → z ≡ false → b ≡ spells row name → row ≡ get_or own 0 0 → b ≡ first_both spells own (cut s)
   unfolding first_both
-  both_firsts p c name b e f h t = rw (one_more s 0 r told p c name e f) (t ∙ some_own own h)
+  both_firsts p c name b z row e f g h t k =
+      rw (one_more s 0 r told p c name e f) (rw k at t ∙ some_own own (eqb-false (length own) 0 (rw g at h)))
     where
       some_own : (o : List ℕ) → (length o ≡ 0 → ⊥) → spells (get_or o 0 0) name ≡ first_both spells o (name ∷ cut (drop c.at s))
       some_own [] e = absurd (e refl)

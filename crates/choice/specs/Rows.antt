@@ -1,16 +1,15 @@
 -- The same choice as the code makes it: the own list is one of rows of a table, and a row is chosen. Over any test of
 -- whether a row spells a name, so over any table.
-use Rattle.std.specs.Prelude.{Bool, false, ◌||◌, List, [], ◌∷◌, map, ℕ, ◌+◌, ltb, length, get_or}
+use Rattle.std.specs.Prelude.{Bool, false, ◌||◌, List, [], ◌∷◌, map, ℕ, ◌+◌, ltb, length, get_or, Option as Maybe}
 use Rattle.std.proofs.Math.Option.{Option, some, none, or_else}
 use Rattle.answer.specs.Answer.{pick}
 use Rattle.names.specs.Tables.{all_names}
-use Rattle.names.specs.Spelled.{row_name, name_at}
-use Rattle.names.specs.Lookup.{is}
+use Rattle.names.specs.declared.rows.Columns.{Columns}
+use Rattle.names.specs.Spelled.{row_name, spelled_by, name_at}
+use Rattle.names.specs.Lookup.{is, found}
 use Rattle.choice.specs.Choice.{first}
 use Rattle.choice.specs.declared.Side.{Side}
 use Rattle.choice.specs.declared.Side.TheVariants.{Client, Server}
-use Rattle.choice.specs.declared.Chosen.{Chosen}
-use Rattle.choice.specs.declared.Chosen.TheVariants.{Row, Nothing}
 
 module _ (spells : ℕ → List ℕ → Bool) where
   -- a row's name stands in the list
@@ -54,6 +53,9 @@ row_at own k = pick (ltb k (length own)) (some (get_or own k 0)) none
 abbrev pub spells_in : List ℕ → List ℕ → List ℕ → ℕ → List ℕ → Bool
 spells_in spellings starts lengths r name = is (row_name spellings starts lengths r) name
 
+abbrev pub spells_by : Columns → ℕ → List ℕ → Bool
+spells_by t r name = is (spelled_by t r) name
+
 abbrev pub spells_name : ℕ → List ℕ → Bool
 spells_name r name = is (name_at all_names r) name
 
@@ -64,7 +66,6 @@ row_spelled r = get_or all_names r []
 abbrev pub spelled_rows : List ℕ → List (List ℕ)
 spelled_rows rows = map row_spelled rows
 
--- what a `Chosen` means
-abbrev pub chose : Chosen → Option ℕ
-chose (Row r) = some r
-chose Nothing = none
+-- what a choice answers means
+abbrev pub chose : Maybe ℕ → Option ℕ
+chose r = found r

@@ -9,7 +9,7 @@ ghost use Rattle.std.specs.Prelude.{◌≡◌, ◌+◌, ◌≤◌, length};
 ghost use Rattle.commas.specs.Cut.{cut};
 ghost use Rattle.wire.specs.Shown.{part};
 ghost use Rattle.choice.specs.Rows.{
-  spells_in,
+  spells_by,
   place_of,
   row_at,
   own_first,
@@ -19,125 +19,96 @@ ghost use Rattle.choice.specs.Rows.{
   chose,
 };
 
-use names::wide;
-use wire::answers::{Cursor, NextName, Place};
+use names::Columns;
+use wire::{Cursor, Place};
 
-#[derive(Clone, Copy)]
+#[derive(Clone, Copy, Debug, PartialEq, Eq)]
 pub enum Side {
     Client,
     Server,
 }
 
-// The row of the own list's name that was chosen, or that no name is shared.
-#[derive(Clone, Copy)]
-pub enum Chosen {
-    Row(u8),
-    Nothing,
-}
-
-fn spells(spellings: &[u8], starts: &[u16], lengths: &[u8], row: u8, name: &[u8]) -> bool
-    ensures { result ≡ spells_in spellings.now starts.now lengths.now row name.now }
-{
-    names::spells(spellings, starts, lengths, wide(row), name)
-}
-
 // A name of the list, at the place that the cursor found.
-fn at_place<'a>(list: &'a [u8], p: Place) -> &'a [u8]
+fn at_place(list: &[u8], p: Place) -> &[u8]
     requires { p.start + p.len ≤ length list.now }
     ensures { result.now ≡ part p list.now }
 {
-    let start = p.start;
-    let end = start + p.len;
-    &list[start..end]
+    &list[p.start..p.start + p.len]
 }
 
 // The place of the first own row that spells the name, or the own list's length.
-fn position(spellings: &[u8], starts: &[u16], lengths: &[u8], own: &[u8], name: &[u8]) -> usize
-    ensures { result ≡ place_of (spells_in spellings.now starts.now lengths.now) own.now name.now }
+fn position(names: &Columns, own: &[u8], name: &[u8]) -> usize
+    ensures { result ≡ place_of (spells_by names.now) own.now name.now }
 {
-    let mut i = 0;
-    while i < own.len() {
-        if spells(spellings, starts, lengths, own[i], name) {
-            return i;
+    for (place, row) in own.iter().enumerate() {
+        if names.spells(usize::from(*row), name) {
+            return place;
         }
-        i += 1;
     }
-    i
+    own.len()
 }
 
-fn row_at(own: &[u8], place: usize) -> Chosen
+fn row_at(own: &[u8], place: usize) -> Option<u8>
     ensures { chose result ≡ row_at own.now place }
 {
     if place < own.len() {
-        return Chosen::Row(own[place]);
+        Some(own[place])
+    } else {
+        None
     }
-    Chosen::Nothing
 }
 
-fn peer_first(spellings: &[u8], starts: &[u16], lengths: &[u8], own: &[u8], list: &[u8]) -> Chosen
-    ensures { chose result ≡ peer_first (spells_in spellings.now starts.now lengths.now) own.now (cut list.now) }
+fn peer_first(names: &Columns, own: &[u8], list: &[u8]) -> Option<u8>
+    ensures { chose result ≡ peer_first (spells_by names.now) own.now (cut list.now) }
 {
     let mut c = Cursor { at: 0 };
-    loop {
-        let next = c.name(list);
-        let NextName::Name(p, d) = next else {
-            return Chosen::Nothing;
-        };
-        let k = position(spellings, starts, lengths, own, at_place(list, p));
+    while let Some((p, next)) = c.name(list) {
+        let k = position(names, own, at_place(list, p));
         if k < own.len() {
-            return Chosen::Row(own[k]);
+            return Some(own[k]);
         }
-        c = d;
+        c = next;
     }
+    None
 }
 
 // Once a name is shared, only an own row before its row can still be chosen, so no other is looked at again, and nothing
 // once it is the first.
-fn own_first(spellings: &[u8], starts: &[u16], lengths: &[u8], own: &[u8], list: &[u8]) -> Chosen
-    ensures { chose result ≡ own_first (spells_in spellings.now starts.now lengths.now) own.now (cut list.now) }
+fn own_first(names: &Columns, own: &[u8], list: &[u8]) -> Option<u8>
+    ensures { chose result ≡ own_first (spells_by names.now) own.now (cut list.now) }
 {
     let mut best = own.len();
     let mut c = Cursor { at: 0 };
-    loop {
-        let next = c.name(list);
-        let NextName::Name(p, d) = next else {
-            return row_at(own, best);
-        };
-        best = position(spellings, starts, lengths, &own[..best], at_place(list, p));
+    while let Some((p, next)) = c.name(list) {
+        best = position(names, &own[..best], at_place(list, p));
         if best == 0 {
             return row_at(own, best);
         }
-        c = d;
+        c = next;
     }
+    row_at(own, best)
 }
 
-// The columns are the caller's, who lends the constant ones once for all lists. `own` has rows of them.
-pub fn choose(
-    spellings: &[u8],
-    starts: &[u16],
-    lengths: &[u8],
-    side: Side,
-    own: &[u8],
-    list: &[u8],
-) -> Chosen
-    ensures { chose result ≡ chosen_row (spells_in spellings.now starts.now lengths.now) side own.now (cut list.now) }
+// The columns are the caller's, who lends the constant ones once for all lists. `own` has rows of them. What is chosen is
+// the row of the own list's name, if a name is shared.
+pub fn choose(names: &Columns, side: Side, own: &[u8], list: &[u8]) -> Option<u8>
+    ensures { chose result ≡ chosen_row (spells_by names.now) side own.now (cut list.now) }
 {
     match side {
-        Side::Client => own_first(spellings, starts, lengths, own, list),
-        Side::Server => peer_first(spellings, starts, lengths, own, list),
+        Side::Client => own_first(names, own, list),
+        Side::Server => peer_first(names, own, list),
     }
 }
 
-pub fn both_first(spellings: &[u8], starts: &[u16], lengths: &[u8], own: &[u8], list: &[u8]) -> bool
-    ensures { result ≡ first_both (spells_in spellings.now starts.now lengths.now) own.now (cut list.now) }
+pub fn both_first(names: &Columns, own: &[u8], list: &[u8]) -> bool
+    ensures { result ≡ first_both (spells_by names.now) own.now (cut list.now) }
 {
     let c = Cursor { at: 0 };
-    let next = c.name(list);
-    let NextName::Name(p, _) = next else {
+    let Some((p, _)) = c.name(list) else {
         return false;
     };
-    if own.len() == 0 {
+    if own.is_empty() {
         return false;
     }
-    spells(spellings, starts, lengths, own[0], at_place(list, p))
+    names.spells(usize::from(own[0]), at_place(list, p))
 }

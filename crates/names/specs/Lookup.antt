@@ -37,3 +37,6 @@ module _ (spellings starts lengths : List ℕ) where
 abbrev pub found : Maybe ℕ → Option ℕ
 found (Some n) = some n
 found None = none
+
+abbrev pub found_row : Maybe ℕ → Option ℕ
+found_row r = found r

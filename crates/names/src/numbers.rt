@@ -4,13 +4,13 @@
 // lent slices and tables of numbers.
 ghost use Rattle.std.specs.Prelude.{◌≡◌};
 ghost use Rattle.names.specs.Tables.{first_row};
-ghost use Rattle.names.specs.Lookup.{number_of, found, onward};
+ghost use Rattle.names.specs.Lookup.{number_of, found, found_row, onward};
 
 use super::{Kind, tables};
 
 // The row of a name of a kind.
 fn row_of(kind: Kind, name: &[u8]) -> Option<usize>
-    ensures { found result ≡ onward (first_row kind) (number_of kind name.now) }
+    ensures { found_row result ≡ onward (first_row kind) (number_of kind name.now) }
 {
     let from = kind.first_row();
     let to = from + kind.count();

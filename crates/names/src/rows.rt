@@ -7,7 +7,7 @@ ghost use Rattle.std.specs.Prelude.{false, ◌≡◌, ◌-◌};
 ghost use Rattle.put.specs.Written.{written, buffer, put};
 ghost use Rattle.wire.specs.Shown.{shown_part};
 ghost use Rattle.names.specs.Spelled.{spelled_by, entry, flag};
-ghost use Rattle.names.specs.Lookup.{row_from, is, found};
+ghost use Rattle.names.specs.Lookup.{row_from, is, found_row};
 
 use super::tables;
 use answer::Cause;
@@ -51,7 +51,7 @@ impl<'a> Columns<'a> {
 
     // The first row from `from` on, and before `to`, that spells the name.
     pub fn find(&self, from: usize, to: usize, name: &[u8]) -> Option<usize>
-        ensures { found result ≡ row_from self.now.spellings.now self.now.starts.now self.now.lengths.now name.now from (to - from) }
+        ensures { found_row result ≡ row_from self.now.spellings.now self.now.starts.now self.now.lengths.now name.now from (to - from) }
     {
         for row in from..to {
             if self.spells(row, name) {

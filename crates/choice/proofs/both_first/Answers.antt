@@ -4,8 +4,8 @@ use Rattle.choice.proofs.both_first.Goals as goal
 pub returns-in_default : goal.returns-in_default
 returns-in_default c = search both_laws
 
-pub returns-then-own-eq0 : goal.returns-then-own-eq0
-returns-then-own-eq0 c = search both_laws
+pub returns-then-is_empty : goal.returns-then-is_empty
+returns-then-is_empty c = search both_laws
 
 pub at_place-requires : goal.at_place-requires
 at_place-requires c = search both_laws

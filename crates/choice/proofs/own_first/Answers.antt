@@ -4,14 +4,11 @@ use Rattle.choice.proofs.own_first.Goals as goal
 pub loop-p-init : goal.loop-p-init
 loop-p-init c = search own_laws
 
-pub returns-in_default : goal.returns-in_default
-returns-in_default c = search own_laws
+pub at_place-requires : goal.at_place-requires
+at_place-requires c = search own_laws
 
 pub slice_bounds-position-end : goal.slice_bounds-position-end
 slice_bounds-position-end c = search own_laws
-
-pub at_place-requires : goal.at_place-requires
-at_place-requires c = search own_laws
 
 pub returns-then-best-eq0 : goal.returns-then-best-eq0
 returns-then-best-eq0 c = search own_laws
@@ -21,3 +18,6 @@ loop-p-smaller c = search own_laws
 
 pub loop-p-preserved : goal.loop-p-preserved
 loop-p-preserved c = search own_laws
+
+pub returns : goal.returns
+returns c = search own_laws

@@ -1,9 +1,6 @@
 use Rattle.choice.proofs.WalkLaws.{peer_laws}
 use Rattle.choice.proofs.peer_first.Goals as goal
 
-pub returns-in_default : goal.returns-in_default
-returns-in_default c = search peer_laws
-
 pub at_place-requires : goal.at_place-requires
 at_place-requires c = search peer_laws
 
@@ -15,3 +12,6 @@ loop-p-smaller c = search peer_laws
 
 pub loop-p-preserved : goal.loop-p-preserved
 loop-p-preserved c = search peer_laws
+
+pub returns : goal.returns
+returns c = search peer_laws
