@@ -1,13 +1,14 @@
 -- Laws of bytes compared, of the first of them, and of US-ASCII. Assumes nothing.
-use mathlib.Core.Bool.{Bool, true, false, ◌&&◌, and_assoc, and-true, and-false}
+use mathlib.Core.Bool.{Bool, true, false, ◌&&◌, and_assoc, and-true}
 use mathlib.Core.List.{List, [], ◌∷◌, ◌++◌}
-use mathlib.Core.Path.{◌≡◌, refl, sym, ◌∙◌, ap}
-use Prim.Native.Nat.{ℕ, suc, max, ◌<◌}
+use mathlib.Core.Path.{◌≡◌, refl, sym, ◌∙◌}
+use Prim.Native.Nat.{ℕ, max, ◌<◌}
 use native.Mathlib.Omega.{arith}
 use borrow.Author.Tests.{ltb-true, lt-ltb, eqb-true, eq-eqb}
 use lib.Dec.{eqb, ltb}
-use lib.ListN.{length, take}
-use lib.Seq.{take_all}
+use Rattle.std.specs.Prelude.{nat_eq}
+use Rattle.std.specs.List.{fold}
+use Rattle.std.specs.Cmp.Lexicographic.{pointwise}
 use Rattle.answer.proofs.Laws.{never, and_left, and_right}
 use Rattle.text.specs.Same.{same, highest, ascii}
 
@@ -16,6 +17,14 @@ tests : (a b : Bool) → (a ≡ true → b ≡ true) → (b ≡ true → a ≡ t
 tests true b f g = sym (f refl)
 tests false true f g = g refl
 tests false false f g = refl
+
+-- `==` of two slices
+pub same_pointwise : (s t : List ℕ) → same s t ≡ pointwise nat_eq s t
+unfolding same
+same_pointwise [] [] = refl
+same_pointwise [] (b ∷ t) = refl
+same_pointwise (a ∷ s) [] = refl
+same_pointwise (a ∷ s) (b ∷ t) = rw (same_pointwise s t)
 
 -- a string is the same as itself
 pub same_self : (s : List ℕ) → same s s ≡ true
@@ -39,13 +48,11 @@ equal_same s t e = rw (← e) (same_self s)
 pub same_differ : (s t : List ℕ) → same s t ≡ false → s ≡ t → ⊥
 same_differ s t e q = never (cc (equal_same s t q))
 
--- strings of two lengths are not the same
-pub same_lengths : (s t : List ℕ) → (length s ≡ length t → ⊥) → same s t ≡ false
-unfolding same
-same_lengths [] [] n = absurd (n refl)
-same_lengths [] (b ∷ t) n = refl
-same_lengths (a ∷ s) [] n = refl
-same_lengths (a ∷ s) (b ∷ t) n = rw (same_lengths s t (λ e. n (ap suc e))) (and-false (eqb a b))
+-- the highest byte, found by a fold
+pub highest_fold : (m : ℕ) (s : List ℕ) → highest m s ≡ fold max m s
+unfolding highest
+highest_fold m [] = refl
+highest_fold m (b ∷ s) = highest_fold (max m b) s
 
 under : (m b : ℕ) → ltb (max m b) 128 ≡ (ltb m 128 && ltb b 128)
 under m b =
@@ -74,7 +81,3 @@ pub ascii_append : (s t : List ℕ) → ascii (s ++ t) ≡ (ascii s && ascii t)
 unfolding ascii
 ascii_append [] t = refl
 ascii_append (b ∷ s) t = rw (ascii_append s t) (sym (and_assoc (ltb b 128) (ascii s) (ascii t)))
-
--- the first n of fewer are all
-pub front_all : (s : List ℕ) (n : ℕ) → length s < n → s ≡ take n s
-front_all s n h = sym (take_all n s (omega arith))

@@ -1,11 +1,11 @@
 -- Laws of UTF-8. Assumes nothing.
 use mathlib.Core.Bool.{true}
 use mathlib.Core.List.{List, [], ◌∷◌}
-use mathlib.Core.Path.{◌≡◌, refl, sym}
+use mathlib.Core.Path.{◌≡◌, refl}
 use Prim.Native.Nat.{ℕ, ◌<◌}
 use native.Mathlib.Omega.{arith}
 use lib.Dec.{ltb}
-use borrow.Author.Tests.{ltb-true}
+use borrow.Author.Tests.{ltb-true, lt-ltb}
 use Rattle.text.specs.Same.{ascii, highest}
 use Rattle.text.specs.Utf8.{more, opened, rows, next, octets, utf8}
 use Rattle.text.proofs.TableLaws.{span}
@@ -25,5 +25,5 @@ ascii_utf8 (b ∷ s) e =
     rw (one_byte b h) (ascii_utf8 s (and_right (ltb b 128) (ascii s) e))
 
 -- text whose highest byte is under 128 is UTF-8
-pub low_utf8 : (s : List ℕ) (m : ℕ) → m ≡ highest 0 s → m < 128 → true ≡ utf8 s
-low_utf8 s m e h = sym (ascii_utf8 s (low_ascii s (rw e at h)))
+pub low_utf8 : (s : List ℕ) (m : ℕ) → m ≡ highest 0 s → m < 128 → ltb m 128 ≡ utf8 s
+low_utf8 s m e h = rw (lt-ltb m 128 h, ascii_utf8 s (low_ascii s (rw e at h)))

@@ -10,3 +10,9 @@ invariant-loop-i l = l.at + name_length (drop l.at l.list) ≡ l.i + name_length
 
 abbrev pub decreases-loop-i : goal.decreases-loop-i
 decreases-loop-i l = length l.list - l.i
+
+abbrev pub invariant-loop-i-2 : goal.invariant-loop-i-2
+invariant-loop-i-2 l = l.at + name_length (drop l.at l.list) ≡ l.i + name_length (drop l.i l.list)
+
+abbrev pub decreases-loop-i-2 : goal.decreases-loop-i-2
+decreases-loop-i-2 l = length l.list - l.i
