@@ -3,11 +3,11 @@
 use mathlib.Core.Path.{◌≡◌, refl, sym, ap, ◌∙◌}
 use mathlib.Core.Bool.{Bool, true, false}
 use mathlib.Core.List.{List, [], ◌∷◌, ◌++◌, append-nil}
-use Prim.Native.Nat.{ℕ, suc, ◌+◌, ◌-◌, ◌≤◌, ◌<◌}
+use Prim.Native.Nat.{ℕ, ◌+◌, ◌≤◌, ◌<◌}
 use native.Mathlib.Omega.{arith}
 use borrow.Author.Tests.{lt-ltb}
-use lib.ListN.{length, replicate, length-append}
-use lib.Seq.{set-append_seam, take-append_seam, append_snoc}
+use lib.ListN.{length, length-append}
+use lib.Seq.{append_snoc}
 use Rattle.answer.specs.Answer.{pick}
 use Rattle.answer.proofs.Laws.{split}
 use Rattle.filters.specs.Picked.{member, of_kind, added, certificates}
@@ -16,10 +16,7 @@ use Rattle.filters.proofs.MadeLaws.{once_there, once_new}
 
 -- what stands in a list that was handed over
 pub shown_list : (xs : List ℕ) → shown (row_list xs) ≡ xs
-shown_list xs = take-append_seam xs (replicate (most_own - length xs) 0)
-
-zeros : (n : ℕ) → n < most_own → replicate {A = ℕ} (most_own - n) 0 ≡ 0 ∷ replicate (most_own - (n + 1)) 0
-zeros n h = let e : most_own - n ≡ suc (most_own - (n + 1)) = omega arith in rw e
+shown_list xs = refl
 
 length_more : (xs : List ℕ) (n : ℕ) → length (xs ++ n ∷ []) ≡ length xs + 1
 length_more xs n = length-append xs (n ∷ [])
@@ -27,7 +24,7 @@ length_more xs n = length-append xs (n ∷ [])
 push_list : (xs : List ℕ) (n : ℕ) → length xs < most_own → pushed (row_list xs) n ≡ row_list (xs ++ n ∷ [])
 unfolding pushed
 push_list xs n h =
-    rw (lt-ltb (length xs) most_own h, zeros (length xs) h, set-append_seam xs 0 (replicate (most_own - (length xs + 1)) 0) n, length_more xs n, append_snoc xs n)
+    rw (lt-ltb (length xs) most_own h)
 
 pub joined_list : (xs ns : List ℕ) → length xs + length ns ≤ most_own → joined (row_list xs) ns ≡ row_list (xs ++ ns)
 unfolding joined

@@ -1,114 +1,54 @@
 -- Laws of making the lists: for each loop what a turn and its end tell, in the words of the code's tests and calls.
 -- Assumes nothing.
 use mathlib.Core.Path.{◌≡◌, refl, sym, ap, ◌∙◌}
-use mathlib.Core.Bool.{Bool, true, false, not, ◌&&◌}
+use mathlib.Core.Bool.{Bool, true, false, ◌||◌}
 use mathlib.Core.List.{List, [], ◌∷◌}
-use Prim.Native.Nat.{ℕ, ◌+◌, ◌≤◌, ◌<◌, min}
-use native.Mathlib.Omega.{arith}
-use borrow.Author.Tests.{not-true, not-false, le-ltb, lt-ltb, le-leb, lt-leb, eq-eqb, ne_eqb}
+use mathlib.Core.Logic.{◌⊎◌, inl, inr}
+use Prim.Native.Nat.{ℕ, ◌+◌, ◌≤◌, ◌<◌}
+use borrow.Author.Tests.{eq-eqb, ne_eqb}
 use lib.Dec.{eqb}
-use lib.ListN.{length, get_or, set, drop, length-drop, drop_of_length-le}
-use Rattle.answer.specs.Answer.{pick}
-use Rattle.answer.proofs.Laws.{split}
+use lib.ListN.{length, get_or, drop, drop_of_length-le}
+use Rattle.std.specs.List.{list_any}
+use Rattle.arrayvec.specs.ArrayVec.{ArrayVec}
 use Rattle.choice.specs.Choice.{kept}
-use Rattle.filters.specs.declared.RowList.{RowList}
-use Rattle.filters.specs.Made.{most_own, row_list, shown, pushed, joined, joined_once, certified}
-use Rattle.filters.specs.Picked.{member, without, held, of_kind, kind_of}
+use Rattle.filters.specs.Made.{row_list, shown, pushed, joined, joined_once, certified}
+use Rattle.filters.specs.Picked.{member, of_kind, kind_of}
+use Rattle.answer.specs.Answer.{pick}
 use Rattle.judging.proofs.JudgeLaws.{next}
 
-module _ (l : RowList) (n : ℕ) (wanted : Bool) where
-  pub push_not : not wanted ≡ true → l ≡ pick wanted (pushed l n) l
-  push_not e = rw (not-true wanted e)
+-- `contains`, in the words of the definitions
+pub list_any-member : (n : ℕ) (ns : List ℕ) → list_any (λ m. eqb m n) ns ≡ member n ns
+unfolding member
+list_any-member n [] = refl
+list_any-member n (m ∷ ns) = ap (λ b. eqb m n || b) (list_any-member n ns)
 
-  module _ (e : not wanted ≡ false) where
-    pub push_full : most_own ≤ l.len → l ≡ pick wanted (pushed l n) l
-    unfolding pushed
-    push_full h = rw (not-false wanted e, le-ltb l.len most_own h)
+known : (n : ℕ) (ns : List ℕ) {b t : Bool} → b ≡ list_any (λ m. eqb m n) ns → b ≡ t → member n ns ≡ t
+known n ns e t = sym (list_any-member n ns) ∙ sym e ∙ t
 
-    pub push_on : l.len < most_own → ◌≡◌ {A = RowList} (record { rows = set l.rows l.len n; len = l.len + 1 }) (pick wanted (pushed l n) l)
-    unfolding pushed
-    push_on h = rw (not-false wanted e, lt-ltb l.len most_own h)
+-- a list starts empty
+module _ (l : ArrayVec ℕ) (e : l.items ≡ []) where
+  pub start : (ns : List ℕ) → joined (row_list []) ns ≡ joined l ns
+  start ns = ap (λ xs. joined (row_list xs) ns) (sym e)
 
-pub ruleset push_laws = (push_not, push_full, push_on)
-
-module _ (n : ℕ) (ns : List ℕ) (i : ℕ) (whole : Bool) (left : whole ≡ member n (drop i ns)) where
-  pub member_end : length ns ≤ i → false ≡ whole
-  unfolding member
-  member_end h = sym (rw (drop_of_length-le ns h) at left)
-
-  module _ (h : i < length ns) where
-    pub member_in : get_or ns i 0 ≡ n → true ≡ whole
-    unfolding member
-    member_in e = sym (rw (next ns i h, eq-eqb (get_or ns i 0) n e) at left)
-
-    pub member_on : (get_or ns i 0 ≡ n → ⊥) → whole ≡ member n (drop (i + 1) ns)
-    unfolding member
-    member_on e = rw (next ns i h, ne_eqb (get_or ns i 0) n e) at left
-
-pub ruleset member_laws = (member_end, member_in, member_on)
+  pub start_certified : (key ids ks is : List ℕ) → certified (row_list []) key ids ks is ≡ certified l key ids ks is
+  start_certified key ids ks is = ap (λ xs. certified (row_list xs) key ids ks is) (sym e)
 
 -- a loop that keeps some of its numbers, whatever the test
-module _ (f : ℕ → Bool) (ns : List ℕ) (i : ℕ) (whole l : RowList) (left : whole ≡ joined l (kept f (drop i ns))) where
-  keep_end : length ns ≤ i → l ≡ whole
+module _ (f : ℕ → Bool) (ns : List ℕ) (i : ℕ) (whole l : ArrayVec ℕ) (left : whole ≡ joined l (kept f (drop i ns))) where
+  pub keep_end : length ns ≤ i → l ≡ whole
   unfolding joined kept
   keep_end h = sym (rw (drop_of_length-le ns h) at left)
 
-  keep_on : i < length ns → (b : Bool) → b ≡ f (get_or ns i 0) → (r : RowList) → r ≡ pick b (pushed l (get_or ns i 0)) l
-      → whole ≡ joined r (kept f (drop (i + 1) ns))
-  unfolding joined kept
-  keep_on h b e r q =
-      split b
-      (λ t. rw (q, t) (left ∙ rw (next ns i h, ← e, t)))
-      (λ t. rw (q, t) (left ∙ rw (next ns i h, ← e, t)))
+  module _ (h : i < length ns) where
+    pub keep_in : f (get_or ns i 0) ≡ true → whole ≡ joined (pushed l (get_or ns i 0)) (kept f (drop (i + 1) ns))
+    unfolding joined kept
+    keep_in e = left ∙ rw (next ns i h, e)
 
--- a list starts empty
-module _ (l : RowList) (e : l ≡ row_list []) where
-  pub start : (ns : List ℕ) → joined (row_list []) ns ≡ joined l ns
-  start ns = rw e
+    pub keep_out : f (get_or ns i 0) ≡ false → whole ≡ joined l (kept f (drop (i + 1) ns))
+    unfolding kept
+    keep_out e = left ∙ rw (next ns i h, e)
 
-  pub start_certified : (key ids ks is : List ℕ) → certified (row_list []) key ids ks is ≡ certified l key ids ks is
-  start_certified key ids ks is = rw e
-
-module _ (set ns : List ℕ) (i : ℕ) (whole l : RowList) where
-  module _ (left : whole ≡ joined l (without set (drop i ns))) where
-    pub without_end : length ns ≤ i → l ≡ whole
-    unfolding without
-    without_end h = keep_end (λ n. not (member n set)) ns i whole l left h
-
-    pub without_on : i < length ns → (m : Bool) → m ≡ member (get_or ns i 0) set → (r : RowList)
-        → r ≡ pick (not m) (pushed l (get_or ns i 0)) l → whole ≡ joined r (without set (drop (i + 1) ns))
-    unfolding without
-    without_on h m e r q = keep_on (λ n. not (member n set)) ns i whole l left h (not m) (ap not e) r q
-
-  module _ (left : whole ≡ joined l (held set (drop i ns))) where
-    pub held_end : length ns ≤ i → l ≡ whole
-    unfolding held
-    held_end h = keep_end (λ n. member (kind_of n) set) ns i whole l left h
-
-    pub held_on : i < length ns → (k : ℕ) → k ≡ kind_of (get_or ns i 0) → (m : Bool) → m ≡ member k set → (r : RowList)
-        → r ≡ pick m (pushed l (get_or ns i 0)) l → whole ≡ joined r (held set (drop (i + 1) ns))
-    unfolding held
-    held_on h k d m e r q = keep_on (λ n. member (kind_of n) set) ns i whole l left h m (e ∙ ap (λ (x : ℕ). member x set) d) r q
-
-pub ruleset keep_laws = (start, without_end, without_on, held_end, held_on)
-
-pub kind_rsa : (n : ℕ) → 4 ≤ n → 4 ≡ kind_of n
-kind_rsa n h = rw (le-leb 4 n h)
-
-pub kind_own : (n : ℕ) → n < 4 → n ≡ kind_of n
-kind_own n h = rw (lt-leb 4 n h)
-
--- a name of the kind that is not there yet
-module _ (n kind t : ℕ) (told : t ≡ kind_of n) (xs : List ℕ) where
-  pub fresh_other : (t ≡ kind → ⊥) → false ≡ (eqb (kind_of n) kind && not (member n xs))
-  fresh_other h = rw (← told, ne_eqb t kind h)
-
-  pub fresh_new : t ≡ kind → (ys : List ℕ) → ys ≡ xs → (m : Bool) → m ≡ member n ys → not m ≡ (eqb (kind_of n) kind && not (member n xs))
-  fresh_new h ys s m e = rw (← told, eq-eqb t kind h, e, s)
-
-pub ruleset fresh_laws = (fresh_other, fresh_new)
-
-module _ (l : RowList) (n : ℕ) (ns : List ℕ) where
+module _ (l : ArrayVec ℕ) (n : ℕ) (ns : List ℕ) where
   pub once_there : member n (shown l) ≡ true → joined_once l (n ∷ ns) ≡ joined_once l ns
   unfolding joined_once
   once_there e = ap (λ (b : Bool). joined_once (pick b l (pushed l n)) ns) e
@@ -117,50 +57,41 @@ module _ (l : RowList) (n : ℕ) (ns : List ℕ) where
   unfolding joined_once
   once_new e = ap (λ (b : Bool). joined_once (pick b l (pushed l n)) ns) e
 
--- the names of a row, if its key is held
-module _ (wanted : Bool) (l m : RowList) where
-  pub row_taken : wanted ≡ true → (r : RowList) → r ≡ m → r ≡ pick wanted m l
-  row_taken e r h = rw (e, h)
-
-  pub row_left : wanted ≡ false → l ≡ pick wanted m l
-  row_left e = rw e
-
-module _ (k : ℕ) (ns : List ℕ) (i : ℕ) (whole l : RowList) (left : whole ≡ joined_once l (of_kind k (drop i ns))) where
+-- a loop that adds the names of a kind, each once
+module _ (k : ℕ) (ns : List ℕ) (i : ℕ) (whole l : ArrayVec ℕ) (left : whole ≡ joined_once l (of_kind k (drop i ns))) where
   pub once_end : length ns ≤ i → l ≡ whole
   unfolding joined_once of_kind kept
   once_end h = sym (rw (drop_of_length-le ns h) at left)
 
-  pub once_on : i < length ns → (b : Bool) → b ≡ (eqb (kind_of (get_or ns i 0)) k && not (member (get_or ns i 0) (shown l))) → (r : RowList)
-      → r ≡ pick b (pushed l (get_or ns i 0)) l → whole ≡ joined_once r (of_kind k (drop (i + 1) ns))
-  unfolding of_kind kept
-  once_on h b e r q =
-      split (eqb (kind_of (get_or ns i 0)) k)
-      (λ t.
-      split (member (get_or ns i 0) (shown l))
-      (λ u. rw (q, e, t, u) (left ∙ rw (next ns i h, t) (once_there l (get_or ns i 0) _ u)))
-      (λ u. rw (q, e, t, u) (left ∙ rw (next ns i h, t) (once_new l (get_or ns i 0) _ u))))
-      (λ t. rw (q, e, t) (left ∙ rw (next ns i h, t)))
+  module _ (h : i < length ns) where
+    pub once_other : (kind_of (get_or ns i 0) ≡ k → ⊥) → whole ≡ joined_once l (of_kind k (drop (i + 1) ns))
+    unfolding of_kind kept
+    once_other e = left ∙ rw (next ns i h, ne_eqb (kind_of (get_or ns i 0)) k e)
 
-pub ruleset once_laws = (once_end, once_on)
+    module _ (e : kind_of (get_or ns i 0) ≡ k) (b : Bool) (held : b ≡ list_any (λ m. eqb m (get_or ns i 0)) (shown l)) where
+      pub once_held : b ≡ true → whole ≡ joined_once l (of_kind k (drop (i + 1) ns))
+      unfolding of_kind kept
+      once_held t = left ∙ rw (next ns i h, eq-eqb (kind_of (get_or ns i 0)) k e) (once_there l (get_or ns i 0) _ (known _ _ held t))
 
--- one column is at its end
-certified_none : (l : RowList) (key ids ks is : List ℕ) → min (length ks) (length is) ≤ 0 → certified l key ids ks is ≡ l
-unfolding certified
-certified_none l key ids [] is h = refl
-certified_none l key ids (k ∷ ks) [] h = refl
-certified_none l key ids (k ∷ ks) (i ∷ is) h = absurd (omega arith)
+      pub once_added : b ≡ false → whole ≡ joined_once (pushed l (get_or ns i 0)) (of_kind k (drop (i + 1) ns))
+      unfolding of_kind kept
+      once_added t = left ∙ rw (next ns i h, eq-eqb (kind_of (get_or ns i 0)) k e) (once_new l (get_or ns i 0) _ (known _ _ held t))
 
-module _ (key ids ks is : List ℕ) (i : ℕ) (whole l : RowList) (left : whole ≡ certified l key ids (drop i ks) (drop i is))
-    (rows : ℕ) (least : rows ≡ min (length ks) (length is)) where
-  pub certified_end : rows ≤ i → l ≡ whole
-  certified_end h = sym (left ∙ certified_none l key ids (drop i ks) (drop i is) (simp length-drop (omega arith)))
-
-  pub certified_on : i < rows → (m : Bool) → m ≡ member (get_or is i 0) ids → (r : RowList)
-      → r ≡ pick m (joined_once l (of_kind (get_or ks i 0) key)) l → whole ≡ certified r key ids (drop (i + 1) ks) (drop (i + 1) is)
+-- a loop over the certificate rows, of which these columns are left
+module _ (key ids : List ℕ) (whole l : ArrayVec ℕ) where
+  pub certified_end : (ks is : List ℕ) → whole ≡ certified l key ids ks is → (ks ≡ []) ⊎ (is ≡ []) → l ≡ whole
   unfolding certified
-  certified_on h m e r q =
-      let a : i < length ks = omega arith in
-      let b : i < length is = omega arith in
-      rw (q, e) (left ∙ rw (next ks i a, next is i b))
+  certified_end [] is left e = sym left
+  certified_end (k ∷ ks) [] left e = sym left
+  certified_end (k ∷ ks) (i ∷ is) left (inl e) = cc
+  certified_end (k ∷ ks) (i ∷ is) left (inr e) = cc
 
-pub ruleset certified_laws = (start_certified, certified_end, certified_on)
+  module _ (ks is : List ℕ) (left : whole ≡ certified l key ids ks is) (k i : ℕ) (ks' is' : List ℕ) (more : ks ≡ k ∷ ks') (more' : is ≡ i ∷ is')
+      (b : Bool) (held : b ≡ list_any (λ m. eqb m i) ids) where
+    pub certified_in : b ≡ true → whole ≡ certified (joined_once l (of_kind k key)) key ids ks' is'
+    unfolding certified
+    certified_in t = left ∙ rw (more, more', known _ _ held t)
+
+    pub certified_out : b ≡ false → whole ≡ certified l key ids ks' is'
+    unfolding certified
+    certified_out t = left ∙ rw (more, more', known _ _ held t)

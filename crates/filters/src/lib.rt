@@ -5,152 +5,86 @@
 // lent slices and tables of numbers.
 #![tactic(auto)]
 
-ghost use Rattle.std.specs.Prelude.{◌≡◌, not, ◌&&◌, [], eqb};
-ghost use Rattle.answer.specs.Answer.{pick};
-ghost use Rattle.filters.specs.Picked.{member, without, held, of_kind, kind_of};
-ghost use Rattle.filters.specs.Made.{row_list, shown, pushed, joined, joined_once, certified};
+ghost use Rattle.std.specs.Prelude.{◌≡◌, ℕ, Bool, []};
+ghost use Rattle.choice.specs.Choice.{kept};
+ghost use Rattle.filters.specs.Picked.{without, held, of_kind, kind_of};
+ghost use Rattle.filters.specs.Made.{row_list, pushed, joined, joined_once, certified};
 
-use judging::{MOST_ENTRIES, shorter};
-use text::front;
+use arrayvec::ArrayVec;
+use judging::MOST_ENTRIES;
 
 // The most rows of an own list: certificate names, then key names.
 pub const MOST_OWN: usize = 2 * MOST_ENTRIES;
 
-// Rows of the name table, `len` of them, and 0 after them.
-#[derive(Clone, Copy)]
-pub struct RowList {
-    pub rows: [u8; MOST_OWN],
-    pub len: usize,
-}
+// The kind of an RSA key, and its first name's number.
+const RSA: u8 = 4;
 
-pub fn none() -> RowList
-    ensures { result ≡ row_list [] }
-{
-    RowList {
-        rows: [0u8; MOST_OWN],
-        len: 0,
-    }
-}
+// Rows of the name table, or numbers of a kind, in the value itself: nothing is allocated.
+pub type RowList = ArrayVec<u8, MOST_OWN>;
 
 // A full list stays as it is. None that is made of judged lists gets that far: the laws of proofs/RoomLaws.antt.
-pub fn push(list: RowList, number: u8, wanted: bool) -> RowList
-    ensures { result ≡ pick wanted (pushed list number) list }
+#[tactic(auto, unfolding(crate::specs::Made::pushed))]
+pub fn push(list: &mut RowList, number: u8)
+    ensures { list.new ≡ pushed list.old number }
 {
-    let n = list.len;
-    if !wanted {
-        return list;
+    if !list.is_full() {
+        list.push(number);
     }
-    if MOST_OWN <= n {
-        return list;
-    }
-    let mut rows = list.rows;
-    rows[n] = number;
-    RowList { rows, len: n + 1 }
 }
 
-pub fn member(number: u8, list: &[u8]) -> bool
-    ensures { result ≡ member number list.now }
+// Those that are to be kept: `keep` answers as p does.
+fn picked<F: Fn(u8) -> bool>(numbers: &[u8], keep: F) -> RowList
+    requires { F.IsAlwaysCallable keep }
+    ensures { (p : ℕ → Bool) → ((n : ℕ) (b : Bool) → F.post keep n b → b ≡ p n) → result ≡ joined (row_list []) (kept p numbers.now) }
 {
-    let mut i = 0;
-    while i < list.len() {
-        if list[i] == number {
-            return true;
+    let mut list = RowList::new();
+    for &n in numbers {
+        if keep(n) {
+            push(&mut list, n);
         }
-        i += 1;
     }
-    false
-}
-
-fn holds(id: u32, ids: &[u32]) -> bool
-    ensures { result ≡ member id ids.now }
-{
-    let mut i = 0;
-    while i < ids.len() {
-        if ids[i] == id {
-            return true;
-        }
-        i += 1;
-    }
-    false
+    list
 }
 
 pub fn without(dropped: &[u8], numbers: &[u8]) -> RowList
     ensures { result ≡ joined (row_list []) (without dropped.now numbers.now) }
 {
-    let mut list = none();
-    let mut i = 0;
-    while i < numbers.len() {
-        let n = numbers[i];
-        list = push(list, n, !member(n, dropped));
-        i += 1;
-    }
-    list
+    picked(numbers, |n| !dropped.contains(&n))
 }
 
 // Every RSA name goes with an RSA key.
 fn kind_of(number: u8) -> u8
     ensures { result ≡ kind_of number }
 {
-    if 4 <= number { 4 } else { number }
+    number.min(RSA)
 }
 
 pub fn held(kinds: &[u8], key: &[u8]) -> RowList
     ensures { result ≡ joined (row_list []) (held kinds.now key.now) }
 {
-    let mut list = none();
-    let mut i = 0;
-    while i < key.len() {
-        let n = key[i];
-        list = push(list, n, member(kind_of(n), kinds));
-        i += 1;
-    }
-    list
+    picked(key, |n| kinds.contains(&kind_of(n)))
 }
 
-// A name of this kind that is not there yet.
-fn fresh(names: RowList, number: u8, kind: u8) -> bool
-    ensures { result ≡ (eqb (kind_of number) kind && not (member number (shown names))) }
+// The names of this kind that are not there yet.
+fn join_kind(names: &mut RowList, kind: u8, key: &[u8])
+    ensures { names.new ≡ joined_once names.old (of_kind kind key.now) }
 {
-    let rows = names.rows;
-    let len = names.len;
-    if kind_of(number) != kind {
-        return false;
+    for &n in key {
+        if kind_of(n) == kind && !names.contains(&n) {
+            push(names, n);
+        }
     }
-    !member(number, front(&rows, len))
-}
-
-fn join_kind(names: RowList, kind: u8, key: &[u8]) -> RowList
-    ensures { result ≡ joined_once names (of_kind kind key.now) }
-{
-    let mut list = names;
-    let mut i = 0;
-    while i < key.len() {
-        let n = key[i];
-        list = push(list, n, fresh(list, n, kind));
-        i += 1;
-    }
-    list
-}
-
-fn join_row(names: RowList, wanted: bool, kind: u8, key: &[u8]) -> RowList
-    ensures { result ≡ pick wanted (joined_once names (of_kind kind key.now)) names }
-{
-    if wanted {
-        return join_kind(names, kind, key);
-    }
-    names
 }
 
 // The key numbers for which the server has a certificate. `held` are the identities of its keys.
 pub fn certified(key: &[u8], held: &[u32], kinds: &[u8], ids: &[u32]) -> RowList
     ensures { result ≡ certified (row_list []) key.now held.now kinds.now ids.now }
 {
-    let mut list = none();
-    let rows = shorter(kinds.len(), ids.len());
-    let mut i = 0;
-    while i < rows {
-        list = join_row(list, holds(ids[i], held), kinds[i], key);
-        i += 1;
+    let mut names = RowList::new();
+    for (&kind, id) in kinds.iter().zip(ids) {
+        if held.contains(id) {
+            join_kind(&mut names, kind, key);
+        }
     }
-    list
+    names
 }

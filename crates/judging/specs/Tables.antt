@@ -6,6 +6,7 @@ use Rattle.names.specs.declared.Kind.{Kind}
 use Rattle.names.specs.declared.Kind.TheVariants.{Kex, Key, Certificate, Cipher, Mac, Compression}
 use Rattle.choice.specs.declared.Side.{Side}
 use Rattle.choice.specs.declared.Side.TheVariants.{Client, Server}
+use Rattle.judging.specs.declared.Tables.{Tables as Lent}
 
 -- "Six preference lists of numbers (kex, key, client certificate, cipher, MAC, compression) [..]; a server also lends up
 -- to 8 key rows (kind; identity number) and up to 8 certificate rows." Here such rows are key rows, and the two columns
@@ -103,6 +104,23 @@ valid t =
     ∷ [])
 
 -- the tables as the code is lent them
+abbrev pub lent : Lent → Tables
+lent t =
+    record {
+      side = t.side;
+      kex = t.kex.now;
+      key = t.key.now;
+      certificate = t.certificate.now;
+      cipher = t.cipher.now;
+      mac = t.mac.now;
+      compression = t.compression.now;
+      key_kinds = t.key_kinds.now;
+      key_ids = t.key_ids.now;
+      cert_kinds = t.cert_kinds.now;
+      cert_ids = t.cert_ids.now;
+    }
+
+-- the same, by its columns
 abbrev pub tables : Side → List ℕ → List ℕ → List ℕ → List ℕ → List ℕ → List ℕ → List ℕ → List ℕ → List ℕ → List ℕ → Tables
 tables side kex key certificate cipher mac compression key_kinds key_ids cert_kinds cert_ids =
     record {

@@ -4,11 +4,15 @@
 // lent slices and tables of numbers.
 #![tactic(auto)]
 
-ghost use Rattle.std.specs.Prelude.{◌≡◌, not, ◌||◌, min, ltb, eqb};
-ghost use Rattle.judging.specs.Tables.{below, good_list, good_row_table, agrees, consistent, may_lend, good_lists, good_tables, valid};
+ghost use Rattle.std.specs.Prelude.{◌≡◌};
+ghost use Rattle.std.specs.Iterator.Adapters.{zip_first, zip_second};
+ghost use Rattle.std.specs.Slice.Iter.{iter_rest};
+ghost use Rattle.judging.specs.Tables.{lent, below, good_list, good_row_table, agrees, consistent, may_lend, good_lists, good_tables, valid};
 
 use choice::Side;
-use names::{Kind, wide};
+use names::Kind;
+use std::iter::Zip;
+use std::slice::Iter;
 
 // The most entries of a preference list.
 pub const MOST_ENTRIES: usize = 16;
@@ -19,180 +23,124 @@ const MOST_KEY_ROWS: usize = 8;
 // Ed25519, P256, P384, P521, RSA
 const KINDS: usize = 5;
 
-pub fn shorter(a: usize, b: usize) -> usize
-    ensures { result ≡ min a b }
-{
-    if a < b { a } else { b }
+// The local tables, all lent: six preference lists of numbers, and a server's two row tables (document 01, "Names and
+// their numbers").
+#[derive(Clone, Copy)]
+pub struct Tables<'a> {
+    pub side: Side,
+    pub kex: &'a [u8],
+    pub key: &'a [u8],
+    pub certificate: &'a [u8],
+    pub cipher: &'a [u8],
+    pub mac: &'a [u8],
+    pub compression: &'a [u8],
+    pub key_kinds: &'a [u8],
+    pub key_ids: &'a [u32],
+    pub cert_kinds: &'a [u8],
+    pub cert_ids: &'a [u32],
 }
 
-fn lies(number: u8, count: usize) -> bool
-    ensures { result ≡ ltb number count }
-{
-    wide(number) < count
+// A row table: the kinds and the identities of its key rows.
+#[derive(Clone, Copy)]
+struct KeyRows<'a> {
+    kinds: &'a [u8],
+    ids: &'a [u32],
 }
 
 fn below(numbers: &[u8], count: usize) -> bool
     ensures { result ≡ below count numbers.now }
 {
-    let mut i = 0;
-    while i < numbers.len() {
-        if !lies(numbers[i], count) {
-            return false;
-        }
-        i += 1;
-    }
-    true
+    numbers.iter().all(|&n| usize::from(n) < count)
 }
 
+#[tactic(auto, unfolding(crate::specs::Tables::good_list, crate::specs::Tables::all))]
 fn good_list(kind: Kind, numbers: &[u8]) -> bool
     ensures { result ≡ good_list kind numbers.now }
 {
-    if MOST_ENTRIES < numbers.len() {
-        return false;
-    }
-    below(numbers, kind.count())
+    numbers.len() <= MOST_ENTRIES && below(numbers, kind.count())
 }
 
-fn good_row_table(kinds: &[u8], ids: &[u32]) -> bool
-    ensures { result ≡ good_row_table kinds.now ids.now }
-{
-    if kinds.len() != ids.len() {
-        return false;
+impl KeyRows<'_> {
+    // It ends with the shorter column.
+    fn rows(&self) -> Zip<Iter<'_, u8>, Iter<'_, u32>>
+        ensures kinds { iter_rest (zip_first result) ≡ self.now.kinds.now }
+        ensures ids { iter_rest (zip_second result) ≡ self.now.ids.now }
+    {
+        self.kinds.iter().zip(self.ids)
     }
-    if MOST_KEY_ROWS < kinds.len() {
-        return false;
+
+    #[tactic(auto, unfolding(crate::specs::Tables::good_row_table, crate::specs::Tables::all))]
+    fn good(&self) -> bool
+        ensures { result ≡ good_row_table self.now.kinds.now self.now.ids.now }
+    {
+        self.kinds.len() == self.ids.len()
+            && self.kinds.len() <= MOST_KEY_ROWS
+            && below(self.kinds, KINDS)
     }
-    below(kinds, KINDS)
+
+    // No key row has this identity but another kind.
+    fn agrees(&self, kind: u8, id: u32) -> bool
+        ensures { result ≡ agrees kind id self.now.kinds.now self.now.ids.now }
+    {
+        self.rows()
+            .all(|(&other, &same)| same != id || other == kind)
+    }
+
+    fn consistent(&self, others: &KeyRows) -> bool
+        ensures { result ≡ consistent self.now.kinds.now self.now.ids.now others.now.kinds.now others.now.ids.now }
+    {
+        self.rows().all(|(&kind, &id)| others.agrees(kind, id))
+    }
 }
 
-// Two key rows may stand together: equal identity has equal kind.
-fn agree(kind: u8, id: u32, other: u8, same: u32) -> bool
-    ensures { result ≡ (not (eqb same id) || eqb other kind) }
-{
-    if same == id {
-        return other == kind;
+impl Tables<'_> {
+    // The tables are not refused with 9.
+    #[tactic(auto, unfolding(crate::specs::Tables::valid, crate::specs::Tables::all))]
+    pub fn valid(&self) -> bool
+        ensures { result ≡ valid (lent self.now) }
+    {
+        self.good_lists() && self.good_tables() && self.may_lend()
     }
-    true
-}
 
-fn agrees(kind: u8, id: u32, kinds: &[u8], ids: &[u32]) -> bool
-    ensures { result ≡ agrees kind id kinds.now ids.now }
-{
-    let rows = shorter(kinds.len(), ids.len());
-    let mut i = 0;
-    while i < rows {
-        if !agree(kind, id, kinds[i], ids[i]) {
-            return false;
+    #[tactic(auto, unfolding(crate::specs::Tables::good_lists, crate::specs::Tables::all))]
+    fn good_lists(&self) -> bool
+        ensures { let t = lent self.now in result ≡ good_lists t.kex t.key t.certificate t.cipher t.mac t.compression }
+    {
+        good_list(Kind::Kex, self.kex)
+            && good_list(Kind::Key, self.key)
+            && good_list(Kind::Certificate, self.certificate)
+            && good_list(Kind::Cipher, self.cipher)
+            && good_list(Kind::Mac, self.mac)
+            && good_list(Kind::Compression, self.compression)
+    }
+
+    #[tactic(auto, unfolding(crate::specs::Tables::good_tables, crate::specs::Tables::all))]
+    fn good_tables(&self) -> bool
+        ensures { let t = lent self.now in result ≡ good_tables t.key_kinds t.key_ids t.cert_kinds t.cert_ids }
+    {
+        let keys = KeyRows {
+            kinds: self.key_kinds,
+            ids: self.key_ids,
+        };
+        let certs = KeyRows {
+            kinds: self.cert_kinds,
+            ids: self.cert_ids,
+        };
+        keys.good()
+            && certs.good()
+            && keys.consistent(&keys)
+            && keys.consistent(&certs)
+            && certs.consistent(&certs)
+    }
+
+    // A client lends no rows.
+    #[tactic(auto, unfolding(crate::specs::Tables::may_lend))]
+    fn may_lend(&self) -> bool
+        ensures { let t = lent self.now in result ≡ may_lend t.side t.key_kinds t.cert_kinds }
+    {
+        match self.side {
+            Side::Client => self.key_kinds.is_empty() && self.cert_kinds.is_empty(),
+            Side::Server => true,
         }
-        i += 1;
     }
-    true
-}
-
-fn consistent(kinds: &[u8], ids: &[u32], others: &[u8], others_ids: &[u32]) -> bool
-    ensures { result ≡ consistent kinds.now ids.now others.now others_ids.now }
-{
-    let rows = shorter(kinds.len(), ids.len());
-    let mut i = 0;
-    while i < rows {
-        if !agrees(kinds[i], ids[i], others, others_ids) {
-            return false;
-        }
-        i += 1;
-    }
-    true
-}
-
-fn may_lend(side: Side, keys: &[u8], certs: &[u8]) -> bool
-    ensures { result ≡ may_lend side keys.now certs.now }
-{
-    let Side::Client = side else {
-        return true;
-    };
-    if keys.len() != 0 {
-        return false;
-    }
-    certs.len() == 0
-}
-
-fn good_lists(
-    kex: &[u8],
-    key: &[u8],
-    certificate: &[u8],
-    cipher: &[u8],
-    mac: &[u8],
-    compression: &[u8],
-) -> bool
-    ensures { result ≡ good_lists kex.now key.now certificate.now cipher.now mac.now compression.now }
-{
-    if !good_list(Kind::Kex, kex) {
-        return false;
-    }
-    if !good_list(Kind::Key, key) {
-        return false;
-    }
-    if !good_list(Kind::Certificate, certificate) {
-        return false;
-    }
-    if !good_list(Kind::Cipher, cipher) {
-        return false;
-    }
-    if !good_list(Kind::Mac, mac) {
-        return false;
-    }
-    good_list(Kind::Compression, compression)
-}
-
-fn good_tables(keys: &[u8], ids: &[u32], certs: &[u8], signed: &[u32]) -> bool
-    ensures { result ≡ good_tables keys.now ids.now certs.now signed.now }
-{
-    if !good_row_table(keys, ids) {
-        return false;
-    }
-    if !good_row_table(certs, signed) {
-        return false;
-    }
-    if !consistent(keys, ids, keys, ids) {
-        return false;
-    }
-    if !consistent(keys, ids, certs, signed) {
-        return false;
-    }
-    consistent(certs, signed, certs, signed)
-}
-
-pub fn valid(
-    side: Side,
-    kex: &[u8],
-    key: &[u8],
-    certificate: &[u8],
-    cipher: &[u8],
-    mac: &[u8],
-    compression: &[u8],
-    key_kinds: &[u8],
-    key_ids: &[u32],
-    cert_kinds: &[u8],
-    cert_ids: &[u32],
-) -> bool
-    ensures { result ≡ valid (record {
-      side = side;
-      kex = kex.now;
-      key = key.now;
-      certificate = certificate.now;
-      cipher = cipher.now;
-      mac = mac.now;
-      compression = compression.now;
-      key_kinds = key_kinds.now;
-      key_ids = key_ids.now;
-      cert_kinds = cert_kinds.now;
-      cert_ids = cert_ids.now;
-    }) }
-{
-    if !good_lists(kex, key, certificate, cipher, mac, compression) {
-        return false;
-    }
-    if !good_tables(key_kinds, key_ids, cert_kinds, cert_ids) {
-        return false;
-    }
-    may_lend(side, key_kinds, cert_kinds)
 }

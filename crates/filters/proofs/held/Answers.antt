@@ -1,11 +1,8 @@
-use Rattle.filters.proofs.MadeLaws.{keep_laws}
+use Rattle.std.proofs.Common.{rules}
+use Rattle.filters.specs.Picked.{member, held, kind_of}
+use Rattle.filters.proofs.MadeLaws.{list_any-member}
 use Rattle.filters.proofs.held.Goals as goal
 
-pub loop-i-init : goal.loop-i-init
-loop-i-init c = search keep_laws
-
-pub loop-i-preserved : goal.loop-i-preserved
-loop-i-preserved c = search keep_laws
-
 pub returns : goal.returns
-returns c = search keep_laws
+unfolding held
+returns c = c.picked.ensures (λ n. member (kind_of n) c.args.kinds.now) (λ n b k. rw (← list_any-member (kind_of n) c.args.kinds.now) (search rules))

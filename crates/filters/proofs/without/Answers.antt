@@ -1,11 +1,9 @@
-use Rattle.filters.proofs.MadeLaws.{keep_laws}
+use mathlib.Core.Bool.{not}
+use Rattle.std.proofs.Common.{rules}
+use Rattle.filters.specs.Picked.{member, without}
+use Rattle.filters.proofs.MadeLaws.{list_any-member}
 use Rattle.filters.proofs.without.Goals as goal
 
-pub loop-i-init : goal.loop-i-init
-loop-i-init c = search keep_laws
-
-pub loop-i-preserved : goal.loop-i-preserved
-loop-i-preserved c = search keep_laws
-
 pub returns : goal.returns
-returns c = search keep_laws
+unfolding without
+returns c = c.picked.ensures (λ n. not (member n c.args.dropped.now)) (λ n b k. rw (← list_any-member n c.args.dropped.now) (search rules))
