@@ -1,23 +1,14 @@
+use Rattle.namelist.specs.Judged.{name_list}
+use Rattle.wire.proofs.StepLaws.{field_steps}
 use Rattle.namelist.proofs.JudgeLaws.{list_laws}
 use Rattle.namelist.proofs.name_list.Goals as goal
 
-pub returns-in_default : goal.returns-in_default
-returns-in_default c = search list_laws
+pub returns-in_err-p : goal.returns-in_err-p
+unfolding name_list
+returns-in_err-p c = search field_steps
 
-pub returns-then-p-gt-MAX_NAME_LIST_BYTES : goal.returns-then-p-gt-MAX_NAME_LIST_BYTES
-returns-then-p-gt-MAX_NAME_LIST_BYTES c = search list_laws
+pub returns-in-Ok : goal.returns-in-Ok
+returns-in-Ok c = search (list_laws, c.in_ok-p.ensures)
 
-pub slice_bounds-judge-count : goal.slice_bounds-judge-count
-slice_bounds-judge-count c = search list_laws
-
-pub slice_bounds-judge-start : goal.slice_bounds-judge-start
-slice_bounds-judge-start c = search list_laws
-
-pub slice_bounds-judge-end : goal.slice_bounds-judge-end
-slice_bounds-judge-end c = search list_laws
-
-pub returns-in_default-j : goal.returns-in_default-j
-returns-in_default-j c = search list_laws
-
-pub returns : goal.returns
-returns c = search list_laws
+pub returns-in-Err : goal.returns-in-Err
+returns-in-Err c = search (list_laws, c.in_ok-p.ensures)
