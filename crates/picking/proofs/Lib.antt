@@ -1,3 +1,2 @@
 pub mod PickLaws
-pub mod StepLaws
 pub mod UniqueLaws

@@ -1,8 +1,9 @@
 -- One list and the choice from it as the code goes through them, by rows of a table of names. No promise of the layers
 -- above cites this: there it is proved equal to what document 01 says by names (crates/negotiation/proofs/ReadLaws.antt).
-use Rattle.std.specs.Prelude.{Bool, false, ◌&&◌, List, ℕ, leb, eqb, get_or}
+use Rattle.std.specs.Prelude.{Bool, false, ◌&&◌, List, ℕ, leb, eqb, get_or, Result}
 use Rattle.std.proofs.Math.Option.{Option, some, none}
-use Rattle.answer.specs.Answer.{Out, refused, done, no_refusal, pick, ◌>>=◌}
+use Rattle.answer.specs.declared.Refusal.{Refusal as Answered}
+use Rattle.answer.specs.Answer.{Out, refused, done, outcome, pick, ◌>>=◌}
 use Rattle.answer.specs.Refusal.{Refusal}
 use Rattle.wire.specs.Fields.{At, Run, here, run}
 use Rattle.commas.specs.Cut.{cut}
@@ -14,9 +15,6 @@ use Rattle.choice.specs.Rows.{offered, chosen_row, first_both}
 use Rattle.picking.specs.declared.Rule.{Rule}
 use Rattle.picking.specs.declared.Rule.TheVariants.{Needed, Protected, Optional}
 use Rattle.picking.specs.declared.Picked.{Picked}
-use Rattle.picking.specs.declared.Picked.TheVariants.{Row, Refused as Unpicked}
-use Rattle.picking.specs.declared.rules.Ruling.{Ruling}
-use Rattle.picking.specs.declared.rules.Ruling.TheVariants.{Row as Ruled, Refused as Unruled}
 
 -- the row of the MAC `none`, the first of its kind
 abbrev pub none_row : ℕ
@@ -60,20 +58,13 @@ module _ (spells : ℕ → List ℕ → Bool) where
   unfoldable pub stands_in : ℕ → At → Bool
   stands_in r c = stands_among r (run c)
 
--- what a `Picked` means
-abbrev pub picked_of : List ℕ → Picked → Out (ℕ × Bool × At)
-picked_of s (Row r f c) = done (r, f, here s c.at)
-picked_of s (Unpicked q) = refused q
+-- what a picked row means, with what is left of s
+abbrev pub row_read : List ℕ → Picked → ℕ × Bool × At
+row_read s p = (p.row, p.first, here s p.next.at)
 
-abbrev pub picked_at : Picked → Out (ℕ × Bool × ℕ)
-picked_at (Row r f c) = done (r, f, c.at)
-picked_at (Unpicked q) = refused q
+abbrev pub picked_of : List ℕ → Result Picked Answered → Out (ℕ × Bool × At)
+picked_of s r = outcome (row_read s) r
 
-abbrev pub why_unpicked : Picked → Refusal
-why_unpicked (Row r f c) = no_refusal
-why_unpicked (Unpicked q) = q
-
--- what a `Ruling` means
-abbrev pub ruling : Ruling → Out ℕ
-ruling (Ruled r) = done r
-ruling (Unruled q) = refused q
+-- what a choice under a rule answers means
+abbrev pub ruling : Result ℕ Answered → Out ℕ
+ruling r = outcome (λ n. n) r

@@ -4,11 +4,7 @@
 // lent slices and tables of numbers.
 #![tactic(auto)]
 
-ghost use Rattle.std.specs.Prelude.{◌≡◌};
-ghost use Rattle.picking.specs.Picking.{why_unpicked};
-
-use answer::{NOTHING, Refusal, refuse};
-use wire::answers::Cursor;
+use wire::Cursor;
 
 mod pick;
 mod rules;
@@ -17,27 +13,17 @@ pub use pick::{pick_name, stands_in};
 pub use rules::mac_rule;
 
 // What a list without a shared name comes to.
-#[derive(Clone, Copy)]
+#[derive(Clone, Copy, Debug, PartialEq, Eq)]
 pub enum Rule {
     Needed,
     Protected,
     Optional,
 }
 
-// The row that was chosen, whether it is both first, and the next cursor.
-#[derive(Clone, Copy)]
-pub enum Picked {
-    Row(u8, bool, Cursor),
-    Refused(Refusal),
-}
-
-impl Picked {
-    pub fn why(self) -> Refusal
-        ensures { result ≡ why_unpicked self }
-    {
-        match self {
-            Picked::Row(_, _, _) => refuse(NOTHING),
-            Picked::Refused(r) => r,
-        }
-    }
+// The row that was chosen, whether it is both first, and where the next field starts.
+#[derive(Clone, Copy, Debug, PartialEq, Eq)]
+pub struct Picked {
+    pub row: u8,
+    pub first: bool,
+    pub next: Cursor,
 }

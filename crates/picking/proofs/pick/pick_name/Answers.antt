@@ -1,17 +1,23 @@
+use Rattle.wire.proofs.StepLaws.{field_steps}
+use Rattle.picking.specs.Picking.{picked}
 use Rattle.picking.proofs.PickLaws.{pick_laws}
 use Rattle.picking.proofs.pick.pick_name.Goals as goal
 
-pub returns-in_default : goal.returns-in_default
-returns-in_default c = search pick_laws
+pub returns-in_err-place : goal.returns-in_err-place
+unfolding picked
+returns-in_err-place c = search field_steps
 
-pub slice_bounds-pick_from-count : goal.slice_bounds-pick_from-count
-slice_bounds-pick_from-count c = search pick_laws
+pub slice_bounds-list-count : goal.slice_bounds-list-count
+slice_bounds-list-count c = search (pick_laws, c.in_ok-place.ensures)
 
-pub slice_bounds-pick_from-start : goal.slice_bounds-pick_from-start
-slice_bounds-pick_from-start c = search pick_laws
+pub slice_bounds-list-start : goal.slice_bounds-list-start
+slice_bounds-list-start c = search (pick_laws, c.in_ok-place.ensures)
 
-pub slice_bounds-pick_from-end : goal.slice_bounds-pick_from-end
-slice_bounds-pick_from-end c = search pick_laws
+pub slice_bounds-list-end : goal.slice_bounds-list-end
+slice_bounds-list-end c = search (pick_laws, c.in_ok-place.ensures)
+
+pub returns-in_err-row : goal.returns-in_err-row
+returns-in_err-row c = search (pick_laws, c.in_ok-place.ensures)
 
 pub returns : goal.returns
-returns c = search pick_laws
+returns c = search (pick_laws, c.in_ok-place.ensures)
