@@ -1,7 +1,8 @@
 -- A KEXINIT as the code goes through it, by rows of a table of names and in stages. No promise of the layers above cites
 -- this: there it is proved equal to `read_kex` (`staged` of crates/negotiation/proofs/ReadLaws.antt).
-use Rattle.std.specs.Prelude.{Bool, not, ◌&&◌, ◌||◌, List, ℕ, ◌-◌, eqb}
-use Rattle.answer.specs.Answer.{Out, refused, done, ◌>>=◌}
+use Rattle.std.specs.Prelude.{Bool, not, ◌&&◌, ◌||◌, List, ℕ, ◌-◌, eqb, Result}
+use Rattle.answer.specs.declared.Refusal.{Refusal as Answered}
+use Rattle.answer.specs.Answer.{Out, done, outcome, ◌>>=◌}
 use Rattle.wire.specs.Fields.{At, byte, word, string, end}
 use Rattle.names.specs.Tables.{first_row}
 use Rattle.names.specs.declared.Kind.TheVariants.{Cipher}
@@ -9,8 +10,6 @@ use Rattle.choice.specs.declared.Side.{Side}
 use Rattle.picking.specs.Picking.{picked, stands_in, mac_rule}
 use Rattle.picking.specs.declared.Rule.TheVariants.{Needed}
 use Rattle.stages.specs.declared.Rows.{Rows}
-use Rattle.stages.specs.declared.GotRows.{GotRows}
-use Rattle.stages.specs.declared.GotRows.TheVariants.{Chosen, Refused as Unread}
 
 -- follows byte, reserved u32, end
 unfoldable pub last_fields : Rows → At → Out (Rows × Bool)
@@ -96,7 +95,6 @@ module _ (spells : ℕ → List ℕ → Bool) (side : Side) where
     (a, f, c₁) ← picked spells side Needed 10 kex c
     keys key cipher mac compression a f (asked && stands_in spells strict_row c || strict_agreed) c₁
 
--- what a `GotRows` means
-abbrev pub got_rows : GotRows → Out (Rows × Bool)
-got_rows (Chosen k follows) = done (k, follows)
-got_rows (Unread r) = refused r
+-- what the rows that were read mean, and whether a guessed packet follows
+abbrev pub got_rows : Result (Rows × Bool) Answered → Out (Rows × Bool)
+got_rows r = outcome (λ k. k) r

@@ -7,21 +7,19 @@
 
 ghost use Rattle.std.specs.Prelude.{◌≡◌, ◌-◌};
 
-use answer::Refusal;
-
 mod stages;
 
-pub use stages::read_rows;
+pub use stages::Reading;
 
 // A row's number in its kind, whose rows start at `first`.
 pub fn number(row: u8, first: u8) -> u8
     ensures { result ≡ row - first }
 {
-    if row < first { 0 } else { row - first }
+    row.saturating_sub(first)
 }
 
 // The rows that were chosen so far, and the flags. `guessed`: kex and key are both first.
-#[derive(Clone, Copy)]
+#[derive(Clone, Copy, Debug, PartialEq, Eq)]
 pub struct Rows {
     pub kex: u8,
     pub key: u8,
@@ -32,11 +30,4 @@ pub struct Rows {
     pub server_compression: u8,
     pub guessed: bool,
     pub strict: bool,
-}
-
-// The rows, and whether a guessed packet follows.
-#[derive(Clone, Copy)]
-pub enum GotRows {
-    Chosen(Rows, bool),
-    Refused(Refusal),
 }

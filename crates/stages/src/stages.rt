@@ -3,11 +3,12 @@
 // Copyright 2016 Pierre-Étienne Meunier, licensed under the Apache License, Version 2.0 (NOTICE); changed: rewritten for
 // lent slices and tables of numbers.
 ghost use Rattle.std.specs.Prelude.{◌≡◌, ◌-◌};
+ghost use Rattle.answer.specs.Refusal.{number as number_of};
 ghost use Rattle.wire.specs.Fields.{here};
 ghost use Rattle.names.specs.Tables.{first_row};
 ghost use Rattle.names.specs.declared.Kind.TheVariants.{Cipher};
-ghost use Rattle.choice.specs.Rows.{spells_in};
-ghost use Rattle.picking.specs.Picking.{mac_rule};
+ghost use Rattle.choice.specs.Rows.{spells_by};
+ghost use Rattle.picking.specs.Picking.{mac_rule, picked, picked_of};
 ghost use Rattle.stages.specs.Stages.{
   got_rows,
   last_fields,
@@ -19,98 +20,24 @@ ghost use Rattle.stages.specs.Stages.{
   read_rows,
 };
 
-use crate::{GotRows, Rows, number};
-use answer::{NO_CIPHER, NO_COMPRESSION, NO_KEX, NO_KEY, NO_MAC};
+use crate::{Rows, number};
+use answer::{Cause, Refusal};
 use choice::Side;
-use names::{CipherId, FIRST_CIPHER};
+use names::{CipherId, Columns, FIRST_CIPHER};
 use picking::{Picked, Rule, mac_rule, pick_name, stands_in};
-use wire::answers::{Checked, Cursor, GotByte, GotText, GotWord};
+use wire::Cursor;
 
-// The follows byte, the reserved number, whatever it is, and the end.
-fn last_fields(k: Rows, p: &[u8], c: Cursor) -> GotRows
-    ensures { got_rows result ≡ last_fields k (here p.now c.at) }
-{
-    let b = c.u8(p);
-    let GotByte::Byte(follows, c1) = b else {
-        return GotRows::Refused(b.why());
-    };
-    let w = c1.u32(p);
-    let GotWord::Word(_, c2) = w else {
-        return GotRows::Refused(w.why());
-    };
-    let e = c2.end(p);
-    let Checked::Fine = e else {
-        return GotRows::Refused(e.why());
-    };
-    GotRows::Chosen(k, follows != 0)
-}
-
-fn languages(k: Rows, p: &[u8], c: Cursor) -> GotRows
-    ensures { got_rows result ≡ languages k (here p.now c.at) }
-{
-    let a = c.string(p);
-    let GotText::Text(_, c1) = a else {
-        return GotRows::Refused(a.why());
-    };
-    let b = c1.string(p);
-    let GotText::Text(_, c2) = b else {
-        return GotRows::Refused(b.why());
-    };
-    last_fields(k, p, c2)
-}
-
-fn compressions(
-    spellings: &[u8],
-    starts: &[u16],
-    lengths: &[u8],
-    side: Side,
-    own: &[u8],
-    k: Rows,
-    p: &[u8],
-    c: Cursor,
-) -> GotRows
-    ensures { got_rows result ≡ compressions (spells_in spellings.now starts.now lengths.now) side own.now k (here p.now c.at) }
-{
-    let a = pick_name(
-        spellings,
-        starts,
-        lengths,
-        side,
-        Rule::Needed,
-        NO_COMPRESSION,
-        own,
-        p,
-        c,
-    );
-    let Picked::Row(client_compression, _, c1) = a else {
-        return GotRows::Refused(a.why());
-    };
-    let b = pick_name(
-        spellings,
-        starts,
-        lengths,
-        side,
-        Rule::Needed,
-        NO_COMPRESSION,
-        own,
-        p,
-        c1,
-    );
-    let Picked::Row(server_compression, _, c2) = b else {
-        return GotRows::Refused(b.why());
-    };
-    let next = Rows {
-        kex: k.kex,
-        key: k.key,
-        cipher: k.cipher,
-        client_mac: k.client_mac,
-        server_mac: k.server_mac,
-        client_compression,
-        server_compression,
-        guessed: k.guessed,
-        strict: k.strict,
-    };
-    languages(next, p, c2)
+// What a KEXINIT is read with: the columns of the names, the side and its own lists, rows of the columns, and the payload.
+#[derive(Clone, Copy)]
+pub struct Reading<'a> {
+    pub names: Columns<'a>,
+    pub side: Side,
+    pub kex: &'a [u8],
+    pub key: &'a [u8],
+    pub cipher: &'a [u8],
+    pub mac: &'a [u8],
+    pub compression: &'a [u8],
+    pub payload: &'a [u8],
 }
 
 fn row_rule(cipher: u8) -> Rule
@@ -119,182 +46,108 @@ fn row_rule(cipher: u8) -> Rule
     mac_rule(CipherId(number(cipher, FIRST_CIPHER)))
 }
 
-// Both MAC lists, under the cipher's rule.
-fn macs(
-    spellings: &[u8],
-    starts: &[u16],
-    lengths: &[u8],
-    side: Side,
-    own: &[u8],
-    compression: &[u8],
-    k: Rows,
-    p: &[u8],
-    c: Cursor,
-) -> GotRows
-    ensures { got_rows result ≡ macs (spells_in spellings.now starts.now lengths.now) side own.now compression.now k (here p.now c.at) }
-{
-    let rule = row_rule(k.cipher);
-    let a = pick_name(spellings, starts, lengths, side, rule, NO_MAC, own, p, c);
-    let Picked::Row(client_mac, _, c1) = a else {
-        return GotRows::Refused(a.why());
-    };
-    let b = pick_name(spellings, starts, lengths, side, rule, NO_MAC, own, p, c1);
-    let Picked::Row(server_mac, _, c2) = b else {
-        return GotRows::Refused(b.why());
-    };
-    let next = Rows {
-        kex: k.kex,
-        key: k.key,
-        cipher: k.cipher,
-        client_mac,
-        server_mac,
-        client_compression: 0,
-        server_compression: 0,
-        guessed: k.guessed,
-        strict: k.strict,
-    };
-    compressions(spellings, starts, lengths, side, compression, next, p, c2)
-}
+impl Reading<'_> {
+    // One list, and the choice from it.
+    fn pick(&self, rule: Rule, no: Cause, own: &[u8], c: Cursor) -> Result<Picked, Refusal>
+        ensures { picked_of self.now.payload.now result ≡ picked (spells_by self.now.names) self.now.side rule (number_of no) own.now (here self.now.payload.now c.at) }
+    {
+        pick_name(&self.names, self.side, rule, no, own, self.payload, c)
+    }
 
-// The cipher server-to-client string, which is decoded and not used.
-fn other_cipher(
-    spellings: &[u8],
-    starts: &[u16],
-    lengths: &[u8],
-    side: Side,
-    mac: &[u8],
-    compression: &[u8],
-    k: Rows,
-    p: &[u8],
-    c: Cursor,
-) -> GotRows
-    ensures { got_rows result ≡ other_cipher (spells_in spellings.now starts.now lengths.now) side mac.now compression.now k (here p.now c.at) }
-{
-    let s = c.string(p);
-    let GotText::Text(_, c1) = s else {
-        return GotRows::Refused(s.why());
-    };
-    macs(spellings, starts, lengths, side, mac, compression, k, p, c1)
-}
+    // The follows byte, the reserved number, whatever it is, and the end.
+    fn last_fields(&self, k: Rows, c: Cursor) -> Result<(Rows, bool), Refusal>
+        ensures { got_rows result ≡ last_fields k (here self.now.payload.now c.at) }
+    {
+        let (follows, c) = c.u8(self.payload)?;
+        let (_, c) = c.u32(self.payload)?;
+        c.end(self.payload)?;
+        Ok((k, follows != 0))
+    }
 
-// The key and cipher lists, after the kex row, whether it was both first, and whether the exchange is strict.
-fn keys(
-    spellings: &[u8],
-    starts: &[u16],
-    lengths: &[u8],
-    side: Side,
-    key: &[u8],
-    cipher: &[u8],
-    mac: &[u8],
-    compression: &[u8],
-    kex: u8,
-    first: bool,
-    strict: bool,
-    p: &[u8],
-    c: Cursor,
-) -> GotRows
-    ensures { got_rows result ≡ keys (spells_in spellings.now starts.now lengths.now) side key.now cipher.now mac.now compression.now kex first strict (here p.now c.at) }
-{
-    let a = pick_name(
-        spellings,
-        starts,
-        lengths,
-        side,
-        Rule::Needed,
-        NO_KEY,
-        key,
-        p,
-        c,
-    );
-    let Picked::Row(key_row, key_first, c1) = a else {
-        return GotRows::Refused(a.why());
-    };
-    let b = pick_name(
-        spellings,
-        starts,
-        lengths,
-        side,
-        Rule::Needed,
-        NO_CIPHER,
-        cipher,
-        p,
-        c1,
-    );
-    let Picked::Row(cipher_row, _, c2) = b else {
-        return GotRows::Refused(b.why());
-    };
-    let next = Rows {
-        kex,
-        key: key_row,
-        cipher: cipher_row,
-        client_mac: 0,
-        server_mac: 0,
-        client_compression: 0,
-        server_compression: 0,
-        guessed: first & key_first,
-        strict,
-    };
-    other_cipher(
-        spellings,
-        starts,
-        lengths,
-        side,
-        mac,
-        compression,
-        next,
-        p,
-        c2,
-    )
-}
+    fn languages(&self, k: Rows, c: Cursor) -> Result<(Rows, bool), Refusal>
+        ensures { got_rows result ≡ languages k (here self.now.payload.now c.at) }
+    {
+        let (_, c) = c.string(self.payload)?;
+        let (_, c) = c.string(self.payload)?;
+        self.last_fields(k, c)
+    }
 
-// All lists from the kex list on. `asked`: the own preferences hold the own strict name; `strict_row` is the other side's.
-pub fn read_rows(
-    spellings: &[u8],
-    starts: &[u16],
-    lengths: &[u8],
-    side: Side,
-    kex: &[u8],
-    key: &[u8],
-    cipher: &[u8],
-    mac: &[u8],
-    compression: &[u8],
-    asked: bool,
-    strictrow: u8,
-    strict_agreed: bool,
-    p: &[u8],
-    c: Cursor,
-) -> GotRows
-    ensures { got_rows result ≡ read_rows (spells_in spellings.now starts.now lengths.now) side kex.now key.now cipher.now mac.now compression.now asked strictrow strict_agreed (here p.now c.at) }
-{
-    let a = pick_name(
-        spellings,
-        starts,
-        lengths,
-        side,
-        Rule::Needed,
-        NO_KEX,
-        kex,
-        p,
-        c,
-    );
-    let Picked::Row(kex_row, first, c1) = a else {
-        return GotRows::Refused(a.why());
-    };
-    let offered = stands_in(spellings, starts, lengths, strictrow, p, c);
-    let strict = asked & offered | strict_agreed;
-    keys(
-        spellings,
-        starts,
-        lengths,
-        side,
-        key,
-        cipher,
-        mac,
-        compression,
-        kex_row,
-        first,
-        strict,
-        p,
-        c1,
-    )
+    fn compressions(&self, k: Rows, c: Cursor) -> Result<(Rows, bool), Refusal>
+        ensures { got_rows result ≡ compressions (spells_by self.now.names) self.now.side self.now.compression.now k (here self.now.payload.now c.at) }
+    {
+        let client = self.pick(Rule::Needed, Cause::NoCompression, self.compression, c)?;
+        let server = self.pick(
+            Rule::Needed,
+            Cause::NoCompression,
+            self.compression,
+            client.next,
+        )?;
+        let k = Rows {
+            client_compression: client.row,
+            server_compression: server.row,
+            ..k
+        };
+        self.languages(k, server.next)
+    }
+
+    // Both MAC lists, under the cipher's rule.
+    fn macs(&self, k: Rows, c: Cursor) -> Result<(Rows, bool), Refusal>
+        ensures { got_rows result ≡ macs (spells_by self.now.names) self.now.side self.now.mac.now self.now.compression.now k (here self.now.payload.now c.at) }
+    {
+        let rule = row_rule(k.cipher);
+        let client = self.pick(rule, Cause::NoMac, self.mac, c)?;
+        let server = self.pick(rule, Cause::NoMac, self.mac, client.next)?;
+        let k = Rows {
+            client_mac: client.row,
+            server_mac: server.row,
+            client_compression: 0,
+            server_compression: 0,
+            ..k
+        };
+        self.compressions(k, server.next)
+    }
+
+    // The cipher server-to-client string, which is decoded and not used.
+    fn other_cipher(&self, k: Rows, c: Cursor) -> Result<(Rows, bool), Refusal>
+        ensures { got_rows result ≡ other_cipher (spells_by self.now.names) self.now.side self.now.mac.now self.now.compression.now k (here self.now.payload.now c.at) }
+    {
+        let (_, c) = c.string(self.payload)?;
+        self.macs(k, c)
+    }
+
+    // The key and cipher lists, after the kex row, and whether the exchange is strict.
+    fn keys(&self, kex: Picked, strict: bool, c: Cursor) -> Result<(Rows, bool), Refusal>
+        ensures { got_rows result ≡ keys (spells_by self.now.names) self.now.side self.now.key.now self.now.cipher.now self.now.mac.now self.now.compression.now kex.row kex.first strict (here self.now.payload.now c.at) }
+    {
+        let key = self.pick(Rule::Needed, Cause::NoKey, self.key, c)?;
+        let cipher = self.pick(Rule::Needed, Cause::NoCipher, self.cipher, key.next)?;
+        let k = Rows {
+            kex: kex.row,
+            key: key.row,
+            cipher: cipher.row,
+            client_mac: 0,
+            server_mac: 0,
+            client_compression: 0,
+            server_compression: 0,
+            guessed: kex.first & key.first,
+            strict,
+        };
+        self.other_cipher(k, cipher.next)
+    }
+
+    // All lists from the kex list on. `asked`: the own preferences hold the own strict name; `strict_row` is the other side's.
+    pub fn read_rows(
+        &self,
+        asked: bool,
+        strict_row: u8,
+        strict_agreed: bool,
+        c: Cursor,
+    ) -> Result<(Rows, bool), Refusal>
+        ensures { got_rows result ≡ read_rows (spells_by self.now.names) self.now.side self.now.kex.now self.now.key.now self.now.cipher.now self.now.mac.now self.now.compression.now asked strict_row strict_agreed (here self.now.payload.now c.at) }
+    {
+        let kex = self.pick(Rule::Needed, Cause::NoKex, self.kex, c)?;
+        let offered = stands_in(&self.names, strict_row, self.payload, c);
+        let strict = asked & offered | strict_agreed;
+        self.keys(kex, strict, kex.next)
+    }
 }

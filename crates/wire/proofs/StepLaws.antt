@@ -28,4 +28,9 @@ module _ {A C : Type 0} (read : A → C) (w : Result A Answered) (o : Out C) (se
     unfolding ◌>>=◌
     step_out g e r k h = let p = err_from_is_err_and r h.1 in rw (← (came_out e k), p.1, p.2)
 
-pub ruleset field_steps = (refl, step_on, step_out)
+-- a test that hands nothing back
+pub end_on : {B : Type 0} (w : Result (Unit {0}) Answered) (o : Out (Unit {0})) → outcome (λ u. u) w ≡ o → (b : _) → w ≡ result_from_control_flow b
+    → (f : Unit {0} → Out B) (m : Out B) (a : Unit {0}) → b ≡ Continue a → m ≡ f tt → m ≡ (o >>= f)
+end_on w o seen b was f m a e k = step_on (λ u. u) w o seen b was f m a e k
+
+pub ruleset field_steps = (refl, step_on, end_on, step_out)
