@@ -1,7 +1,7 @@
 -- The lists that a side writes into its KEXINIT and chooses from, as rows of the name table and as names (document 01,
 -- "KEXINIT"; src/negotiation.rs).
 use Rattle.std.specs.Prelude.{List, [], ◌∷◌, ◌++◌, map, ℕ, ◌+◌}
-use Rattle.answer.specs.Answer.{pick}
+use Rattle.answer.specs.Answer.{Out, done, refuse, pick}
 use Rattle.names.specs.Tables.{first_row}
 use Rattle.names.specs.declared.Kind.{Kind}
 use Rattle.names.specs.declared.Kind.TheVariants.{Kex, Key, Certificate, Cipher, Mac, Compression}
@@ -54,7 +54,6 @@ key_list_rows t = key_of t.side t
 unfoldable pub lists_of : Tables → Own
 lists_of t =
     record {
-      number = 0;
       kex_written = row_list (written_kex t);
       kex_chosen = row_list (chosen_kex t);
       key = row_list (key_list_rows t);
@@ -63,18 +62,6 @@ lists_of t =
       compression = row_list (rows Compression t.compression);
     }
 
--- "A refusal returns its number and nothing else."
-unfoldable pub no_own : Own
-no_own =
-    record {
-      number = 9;
-      kex_written = row_list [];
-      kex_chosen = row_list [];
-      key = row_list [];
-      cipher = row_list [];
-      mac = row_list [];
-      compression = row_list [];
-    }
-
-unfoldable pub own_of : Tables → Own
-own_of t = pick (valid t) (lists_of t) no_own
+-- tables that are not valid are refused with 9: "A refusal returns its number and nothing else."
+unfoldable pub own_of : Tables → Out Own
+own_of t = pick (valid t) (done (lists_of t)) (refuse 9)

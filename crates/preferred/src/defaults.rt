@@ -2,13 +2,16 @@
 //
 // Copyright 2016 Pierre-Étienne Meunier, licensed under the Apache License, Version 2.0 (NOTICE); changed: rewritten for
 // lent slices and tables of numbers.
-ghost use Rattle.std.specs.Prelude.{◌≡◌, []};
+ghost use Rattle.std.specs.Prelude.{◌≡◌};
+ghost use Rattle.answer.specs.Answer.{answered};
 ghost use Rattle.preferred.specs.Own.{own_of};
-ghost use Rattle.preferred.specs.Defaults.{default_kex, default_key, default_cipher, default_mac, default_compression};
+ghost use Rattle.preferred.specs.Defaults.{defaults};
 
 use super::Own;
 use super::make::own_lists;
+use answer::Cause;
 use choice::Side;
+use judging::Tables;
 
 pub const KEX: [u8; 13] = [0, 1, 2, 3, 4, 5, 6, 7, 8, 9, 10, 11, 12];
 
@@ -27,32 +30,20 @@ pub fn default_lists(
     key_ids: &[u32],
     cert_kinds: &[u8],
     cert_ids: &[u32],
-) -> Own
-    ensures { result ≡ own_of (record {
-      side = side;
-      kex = default_kex;
-      key = default_key;
-      certificate = [];
-      cipher = default_cipher;
-      mac = default_mac;
-      compression = default_compression;
-      key_kinds = key_kinds.now;
-      key_ids = key_ids.now;
-      cert_kinds = cert_kinds.now;
-      cert_ids = cert_ids.now;
-    }) }
+) -> Result<Own, Cause>
+    ensures { answered result ≡ own_of (defaults side key_kinds.now key_ids.now cert_kinds.now cert_ids.now) }
 {
-    own_lists(
+    own_lists(&Tables {
         side,
-        &KEX,
-        &KEY,
-        &KEX[..0],
-        &CIPHER,
-        &MAC,
-        &COMPRESSION,
+        kex: &KEX,
+        key: &KEY,
+        certificate: &[],
+        cipher: &CIPHER,
+        mac: &MAC,
+        compression: &COMPRESSION,
         key_kinds,
         key_ids,
         cert_kinds,
         cert_ids,
-    )
+    })
 }

@@ -12,11 +12,9 @@ pub use defaults::default_lists;
 use filters::RowList;
 pub use make::own_lists;
 
-// A side's own lists, made of tables that were judged: `number` is 0, or 9 and every list is empty. (An enum that holds
-// an array is not covered, so the number stands beside the lists.)
-#[derive(Clone, Copy)]
+// A side's own lists, made of tables that were judged.
+#[derive(Drop)]
 pub struct Own {
-    pub number: u8,
     pub kex_written: RowList,
     pub kex_chosen: RowList,
     pub key: RowList,
