@@ -1,7 +1,6 @@
 mod CodeLaws
 mod OpeningLaws
-mod StoreLaws
-mod SealingLaws
 pub mod WriteLaws
+mod SealingLaws
 pub mod ReadLaws
 pub mod ReadBackLaws

@@ -1,15 +1,17 @@
 -- Laws of what is read: when each answer is given, and what a caller may rely on. Assumes nothing.
 use Rattle.std.proofs.Common.{◌≡◌, ℕ, ◌+◌, ◌<◌, ◌≤◌, ltb, leb, List, length, sym, arith, ltb-false, ltb-true, leb-false, leb-true}
 use Rattle.answer.specs.Answer.{Out, done, refuse, refuse_at, ◌>>=◌}
-use Rattle.answer.proofs.Laws.{split, not_both}
+use Rattle.std.specs.Prelude.{Result}
+use Rattle.answer.specs.declared.Refusal.{Refusal as Answered}
+use Rattle.answer.proofs.Laws.{split, not_both, outcome_unique}
 use Rattle.wire.specs.Shown.{shown, part}
 use Rattle.wire.proofs.ShowLaws.{inside}
 use Rattle.framing.specs.declared.Counters.{Counters}
 use Rattle.framing.specs.declared.Packet.{Packet}
-use Rattle.framing.specs.declared.GotPacket.{GotPacket}
-use Rattle.framing.specs.declared.GotPacket.TheVariants.{Need, Whole, Refused as NoPacket}
+use Rattle.framing.specs.declared.Opened.{Opened}
+use Rattle.framing.specs.declared.Opened.TheVariants.{Need, Whole}
 use Rattle.framing.specs.Clear.{most_length, Read, need, packet, announced, padding_of, packet_at, whole_packet, read_packet, judged_length, judged_padding}
-use Rattle.framing.specs.Answers.{got_packet}
+use Rattle.framing.specs.Answers.{opened, got_packet}
 
 -- The five answers, each with all that leads to it: what holds of each of them holds of whatever is read.
 pub each_answer : (P : Out Read → Type 0) (s : List ℕ) (k : Counters) → (length s < 4 → P (done (need 4)))
@@ -71,13 +73,11 @@ pub payload_shown : (s : List ℕ) (k : Counters) (p : Packet) → read_packet s
 payload_shown s k p e = let h = packet_inside s k p e in inside s p.payload (omega arith)
 
 -- no two answers have one meaning
-pub got_unique : (a b : GotPacket) → got_packet a ≡ got_packet b → a ≡ b
-got_unique (Need m) (Need n) e = cc
-got_unique (Need m) (Whole q) e = cc
-got_unique (Need m) (NoPacket r) e = cc
-got_unique (Whole p) (Need n) e = cc
-got_unique (Whole p) (Whole q) e = cc
-got_unique (Whole p) (NoPacket r) e = cc
-got_unique (NoPacket q) (Need n) e = cc
-got_unique (NoPacket q) (Whole p) e = cc
-got_unique (NoPacket q) (NoPacket r) e = cc
+opened_unique : (a b : Opened) → opened a ≡ opened b → a ≡ b
+opened_unique (Need m) (Need n) e = cc
+opened_unique (Need m) (Whole q) e = cc
+opened_unique (Whole p) (Need n) e = cc
+opened_unique (Whole p) (Whole q) e = cc
+
+pub got_unique : (a b : Result Opened Answered) → got_packet a ≡ got_packet b → a ≡ b
+got_unique a b e = outcome_unique opened opened_unique a b e

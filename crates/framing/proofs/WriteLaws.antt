@@ -1,16 +1,17 @@
 -- Laws of what is written: the padding, the largest payload, and when each answer is given. Assumes nothing.
-use Rattle.std.proofs.Common.{◌≡◌, ℕ, ◌+◌, ◌-◌, ◌%◌, ◌<◌, ◌≤◌, ltb, leb, List, ◌++◌, length, drop, refl, ap, arith, length-append, ltb-false, ltb-true, le-leb, leb-false, leb-true}
+use Rattle.std.proofs.Common.{◌≡◌, ℕ, ◌+◌, ◌-◌, ◌%◌, ◌<◌, ◌≤◌, ltb, leb, List, ◌++◌, length, drop, refl, ap, sym, arith, length-append, ltb-false, ltb-true, le-leb, leb-false, leb-true}
 use borrow.Author.Tests.{lt-leb}
 use lib.ListN.{length-replicate}
 use lib.Seq.{sets-eq}
+use Rattle.std.specs.Prelude.{Result, Ok, Err}
+use Rattle.answer.specs.declared.Cause.{Cause}
 use Rattle.answer.specs.Refusal.{Refusal}
 use Rattle.answer.specs.Answer.{Out, done, refuse, ◌>>=◌}
-use Rattle.answer.proofs.Laws.{split, un_done, un_refused}
+use Rattle.answer.proofs.Laws.{split, un_done, un_refused, number_unique, not_both}
 use Rattle.put.proofs.PutLaws.{word_length}
 use Rattle.put.specs.Written.{written, buffer}
 use Rattle.framing.specs.declared.Counters.{Counters}
 use Rattle.framing.specs.declared.Sealed.{Sealed}
-use Rattle.framing.specs.declared.Sealed.TheVariants.{Total, Refused as NotSealed}
 use Rattle.framing.specs.Answers.{wrote, sealing}
 use Rattle.framing.specs.Clear.{counted, most_length, most_payload, padding_length, packet_length, judged_length, frame, packet_of}
 
@@ -83,12 +84,8 @@ unfolding padding_length
 largest_total = refl
 
 -- no two answers have one meaning
-pub wrote_unique : (a b : Sealed) → wrote a ≡ wrote b → a ≡ b
-wrote_unique (Total m j) (Total n k) e =
-    let d = un_done e in
-    let p = ap (λ (x : ℕ × Counters). x.0) d in
-    let q = ap (λ (x : ℕ × Counters). x.1) d in
-    cc
-wrote_unique (Total m j) (NotSealed r) e = cc
-wrote_unique (NotSealed q) (Total n k) e = cc
-wrote_unique (NotSealed q) (NotSealed r) e = ap NotSealed (ap (λ (z : Refusal). z.number) (un_refused e))
+pub wrote_unique : (a b : Result Sealed Cause) → wrote a ≡ wrote b → a ≡ b
+wrote_unique (Ok s) (Ok t) e = let d = un_done e in λ i. Ok (record { total = (d i).0; counters = (d i).1 })
+wrote_unique (Ok s) (Err r) e = absurd (not_both e)
+wrote_unique (Err q) (Ok t) e = absurd (not_both (sym e))
+wrote_unique (Err q) (Err r) e = ap Err (number_unique q r (ap (λ (z : Refusal). z.number) (un_refused e)))

@@ -1,22 +1,26 @@
 -- What the answers of the code mean.
-use Rattle.std.specs.Prelude.{ℕ, List, length}
-use Rattle.answer.specs.Answer.{Out, refused, done, refuse, ◌>>=◌}
+use Rattle.std.specs.Prelude.{ℕ, List, length, Result, Ok, Err}
+use Rattle.answer.specs.declared.Cause.{Cause}
+use Rattle.answer.specs.declared.Refusal.{Refusal as Answered}
+use Rattle.answer.specs.Refusal.{number as number_of}
+use Rattle.answer.specs.Answer.{Out, done, refuse, outcome, ◌>>=◌}
 use Rattle.put.specs.Written.{written}
 use Rattle.framing.specs.declared.Counters.{Counters}
-use Rattle.framing.specs.declared.GotPacket.{GotPacket}
-use Rattle.framing.specs.declared.GotPacket.TheVariants.{Need, Whole, Refused as NoPacket}
+use Rattle.framing.specs.declared.Opened.{Opened}
+use Rattle.framing.specs.declared.Opened.TheVariants.{Need, Whole}
 use Rattle.framing.specs.declared.Sealed.{Sealed}
-use Rattle.framing.specs.declared.Sealed.TheVariants.{Total, Refused as NotSealed}
 use Rattle.framing.specs.Clear.{Read, need, packet, packet_of, counted}
 
-abbrev pub got_packet : GotPacket → Out Read
-got_packet (Need n) = done (need n)
-got_packet (Whole p) = done (packet p)
-got_packet (NoPacket r) = refused r
+abbrev pub opened : Opened → Read
+opened (Need n) = need n
+opened (Whole p) = packet p
 
-abbrev pub wrote : Sealed → Out (ℕ × Counters)
-wrote (Total n k) = done (n, k)
-wrote (NotSealed n) = refuse n
+abbrev pub got_packet : Result Opened Answered → Out Read
+got_packet r = outcome opened r
+
+abbrev pub wrote : Result Sealed Cause → Out (ℕ × Counters)
+wrote (Ok s) = done (s.total, s.counters)
+wrote (Err c) = refuse (number_of c)
 
 -- what writing a payload at the front of the lent output answers: how many bytes were written, and the new counters
 unfoldable pub sealing : List ℕ → List ℕ → Counters → Out (ℕ × Counters)

@@ -6,16 +6,17 @@
 #![tactic(auto)]
 
 ghost use Rattle.std.specs.Prelude.{◌≡◌};
+ghost use Rattle.answer.specs.Answer.{answered};
 ghost use Rattle.wire.specs.Answers.{checked};
 ghost use Rattle.framing.specs.Clear.{judged_length, judged_padding, counted};
 
-use answer::{PACKET_SIZE, PADDING, Refusal, refuse, refuse_at};
-use wire::answers::{Checked, Place};
+use answer::{Cause, Refusal};
+use wire::Place;
 
 mod opening;
 mod sealing;
 
-pub use opening::{payload, read};
+pub use opening::read;
 pub use sealing::{padding_length, write};
 
 // MAXIMUM_PACKET_LEN of src/cipher/mod.rs.
@@ -25,14 +26,14 @@ const MAXIMUM_PACKET_LEN: usize = 262177;
 const PADDING_AT: usize = 4;
 
 // What a direction counts: packets, modulo 2^32, and payload bytes.
-#[derive(Clone, Copy)]
+#[derive(Clone, Copy, Debug, PartialEq, Eq)]
 pub struct Counters {
     pub seqn: u32,
     pub bytes: u64,
 }
 
 // A packet that stands whole in the slice.
-#[derive(Clone, Copy)]
+#[derive(Clone, Copy, Debug, PartialEq, Eq)]
 pub struct Packet {
     pub payload: Place,
     pub end: usize,
@@ -40,54 +41,49 @@ pub struct Packet {
     pub counters: Counters,
 }
 
-#[derive(Clone, Copy)]
-pub enum GotPacket {
+// What the front of a slice holds: more bytes are needed, so many in all, or a packet.
+#[derive(Clone, Copy, Debug, PartialEq, Eq)]
+pub enum Opened {
     Need(usize),
     Whole(Packet),
-    Refused(Refusal),
 }
 
-// How many bytes were written and the counters after them, or the number of the refusal.
-#[derive(Clone, Copy)]
-pub enum Sealed {
-    Total(usize, Counters),
-    Refused(u8),
+// How many bytes were written, and the counters after them.
+#[derive(Clone, Copy, Debug, PartialEq, Eq)]
+pub struct Sealed {
+    pub total: usize,
+    pub counters: Counters,
 }
 
-fn judge_length(len: usize) -> Checked
-    ensures { checked result ≡ judged_length len }
+#[tactic(auto, using(crate::proofs::CodeLaws::judge_laws))]
+fn judge_length(len: usize) -> Result<(), Cause>
+    ensures { answered result ≡ judged_length len }
 {
     if MAXIMUM_PACKET_LEN < len {
-        return Checked::Refused(refuse(PACKET_SIZE));
+        return Err(Cause::PacketSize);
     }
-    Checked::Fine
+    Ok(())
 }
 
-fn judge_padding(len: usize, padding: usize) -> Checked
+#[tactic(auto, using(crate::proofs::CodeLaws::judge_laws))]
+fn judge_padding(len: usize, padding: usize) -> Result<(), Refusal>
     ensures { checked result ≡ judged_padding len padding }
 {
     if len < padding {
-        return Checked::Refused(refuse_at(PADDING, PADDING_AT));
+        return Err(Cause::Padding.at(PADDING_AT));
     }
-    Checked::Fine
+    Ok(())
 }
 
 impl Counters {
     // The Rust's writer adds payload bytes plainly; both directions stop at the largest count here, as its reader does.
+    #[tactic(auto, unfolding(crate::specs::Clear::counted))]
     fn count(self, n: usize) -> Counters
         ensures { result ≡ counted n self }
     {
-        let seqn = std::num::wrapping_add_u32(self.seqn, 1);
-        let more = n as u64;
-        if u64::MAX - self.bytes < more {
-            return Counters {
-                seqn,
-                bytes: u64::MAX,
-            };
-        }
         Counters {
-            seqn,
-            bytes: self.bytes + more,
+            seqn: self.seqn.wrapping_add(1),
+            bytes: self.bytes.saturating_add(n as u64),
         }
     }
 }

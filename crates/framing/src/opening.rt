@@ -2,15 +2,17 @@
 //
 // Copyright 2016 Pierre-Étienne Meunier, licensed under the Apache License, Version 2.0 (NOTICE); changed: rewritten for
 // lent slices and tables of numbers.
-ghost use Rattle.std.specs.Prelude.{◌≡◌, ◌+◌, ◌-◌, ◌≤◌, length};
-ghost use Rattle.wire.specs.Shown.{shown, refusal_of, bytes_of, start_of};
+ghost use Rattle.std.specs.Prelude.{◌≡◌, ◌+◌, ◌≤◌, length, IfOk};
+ghost use Rattle.wire.specs.Shown.{shown, shown_part};
 ghost use Rattle.framing.specs.Clear.{padding_of, packet_at, whole_packet, read_packet};
 ghost use Rattle.framing.specs.Answers.{got_packet};
 
-use crate::{Counters, GotPacket, Packet};
-use wire::answers::{Checked, Cursor, GotWord, Place};
+use crate::{Counters, Opened, Packet, judge_length, judge_padding};
+use answer::{Cause, Refusal};
+use wire::{Cursor, Place};
 
 // A packet of length 0 has no byte for its padding.
+#[tactic(auto, using(crate::proofs::CodeLaws::byte_laws))]
 fn padding_of(s: &[u8], len: usize) -> usize
     requires { len + 4 ≤ length s.now }
     ensures { result ≡ padding_of s.now len }
@@ -18,23 +20,17 @@ fn padding_of(s: &[u8], len: usize) -> usize
     if len == 0 {
         return 0;
     }
-    s[4] as usize
+    usize::from(s[4])
 }
 
-// What is left of a packet without its padding has the byte that says the padding, unless it is empty.
-fn payload_len(plain: usize) -> usize
-    ensures { result ≡ plain - 1 }
-{
-    if plain == 0 { 0 } else { plain - 1 }
-}
-
-// The payload starts at its end minus its length and not at 5: where the end is 4, the slice may end there too.
+// What is left of a packet without its padding has the byte that says the padding, unless it is empty. The payload starts at
+// its end minus its length and not at 5: where the end is 4, the slice may end there too.
 fn packet_at(len: usize, padding: usize, k: Counters) -> Packet
     requires { (padding ≤ len) × (len ≤ 4294967295) }
     ensures { result ≡ packet_at len padding k }
 {
     let plain = len - padding;
-    let size = payload_len(plain);
+    let size = plain.saturating_sub(1);
     let end = plain + 4;
     Packet {
         payload: Place {
@@ -47,44 +43,37 @@ fn packet_at(len: usize, padding: usize, k: Counters) -> Packet
     }
 }
 
-fn open(s: &[u8], len: usize, k: Counters) -> GotPacket
+fn open(s: &[u8], len: usize, k: Counters) -> Result<Opened, Refusal>
     requires { (len + 4 ≤ length s.now) × (len ≤ 4294967295) }
     ensures { got_packet result ≡ whole_packet s.now len k }
 {
     let padding = padding_of(s, len);
-    let j = crate::judge_padding(len, padding);
-    let Checked::Fine = j else {
-        return GotPacket::Refused(j.why());
-    };
-    GotPacket::Whole(packet_at(len, padding, k))
+    judge_padding(len, padding)?;
+    Ok(Opened::Whole(packet_at(len, padding, k)))
 }
 
-pub fn read(s: &[u8], k: Counters) -> GotPacket
+#[tactic(auto, using(crate::proofs::OpeningLaws::read_laws))]
+pub fn read(s: &[u8], k: Counters) -> Result<Opened, Refusal>
     ensures { got_packet result ≡ read_packet s.now k }
 {
-    let start = Cursor { at: 0 };
-    let w = start.u32(s);
-    let GotWord::Word(n, _) = w else {
-        return GotPacket::Need(4);
+    let Ok((n, _)) = Cursor { at: 0 }.u32(s) else {
+        return Ok(Opened::Need(4));
     };
     let len = n as usize;
-    let j = crate::judge_length(len);
-    let Checked::Fine = j else {
-        return GotPacket::Refused(j.why());
-    };
+    judge_length(len)?;
     if s.len() < len + 4 {
-        return GotPacket::Need(len + 4);
+        return Ok(Opened::Need(len + 4));
     }
     open(s, len, k)
 }
 
-// The payload as the part of the slice that it is.
-pub fn payload<'a, 'b>(s: &'a [u8], p: Packet, no: &'b mut u8) -> &'a [u8]
-    ensures number { no.new ≡ refusal_of (shown s.now p.payload) }
-    ensures part { result.now ≡ bytes_of (shown s.now p.payload) }
-    ensures block { result.ref_ptr.0 ≡ s.entry.ref_ptr.0 }
-    ensures place { result.ref_ptr.1 ≡ s.entry.ref_ptr.1 + start_of p.payload (shown s.now p.payload) }
-{
-    let place = p.payload;
-    wire::show::show(s, place, no)
+impl Packet {
+    // The payload as the part of the slice that it is.
+    pub fn payload(self, s: &[u8]) -> Result<&[u8], Cause>
+        ensures part { shown_part result ≡ shown s.now self.payload }
+        ensures block { IfOk result (λ part. part.ref_ptr.0 ≡ s.entry.ref_ptr.0) }
+        ensures place { IfOk result (λ part. part.ref_ptr.1 ≡ s.entry.ref_ptr.1 + self.payload.start) }
+    {
+        self.payload.show(s)
+    }
 }

@@ -2,88 +2,58 @@
 //
 // Copyright 2016 Pierre-Étienne Meunier, licensed under the Apache License, Version 2.0 (NOTICE); changed: rewritten for
 // lent slices and tables of numbers.
-ghost use Rattle.std.specs.Prelude.{◌≡◌, ◌+◌, ◌≤◌, length, replicate};
+ghost use Rattle.std.specs.Prelude.{◌≡◌, ◌+◌, ◌≤◌, length};
 ghost use Rattle.std.proofs.lemmas.List.Edits.{sets};
 ghost use Rattle.put.specs.Written.{buffer};
 ghost use Rattle.framing.specs.Clear.{padding_length, packet_length, frame, packet_of};
 ghost use Rattle.framing.specs.Answers.{wrote, sealing};
 
-use crate::{Counters, Sealed};
-use answer::{NO_ROOM, PACKET_SIZE};
-use wire::answers::Checked;
+use crate::{Counters, Sealed, judge_length};
+use answer::Cause;
 
-// The most that padding_length answers.
-const MOST_PADDING: usize = 11;
+const BLOCK_SIZE: usize = 8;
 
 // "Cleartext packets (including lengths) must be multiple of 8 in length" (src/cipher/clear.rs).
+#[tactic(auto, using(crate::proofs::CodeLaws::padding_laws))]
 pub fn padding_length(payload: &[u8]) -> usize
     ensures padding { result ≡ padding_length (length payload.now) }
     ensures small { result ≤ 11 }
 {
-    let block_size = 8;
-    let padding_len = block_size - (5 + payload.len()) % block_size;
+    let padding_len = BLOCK_SIZE - (5 + payload.len()) % BLOCK_SIZE;
     if padding_len < 4 {
-        return padding_len + block_size;
+        return padding_len + BLOCK_SIZE;
     }
     padding_len
 }
 
-fn fill_padding(out: &mut [u8], at: usize, n: usize)
-    requires { at + n ≤ length out.old }
-    ensures { out.new ≡ sets out.old at (replicate n 0) }
-{
-    let mut j = 0;
-    while j < n {
-        out[at + j] = 0;
-        j += 1;
-    }
-}
-
-// A copy takes 32 bytes at a time and is slow with what is left, so the last 32 bytes are copied whole, some of them again.
-// They go by an array, which cannot overlap the output as the payload could for all that the compiler knows.
-fn put_payload(out: &mut [u8], x: &[u8])
-    requires { 5 + length x.now ≤ length out.old }
-    ensures { out.new ≡ sets out.old 5 x.now }
-{
-    if x.len() < 32 {
-        put::put_bytes(out, 5, x);
-        return;
-    }
-    let whole = x.len() / 32 * 32;
-    put::put_bytes(out, 5, &x[..whole]);
-    let last = x.len() - 32;
-    let mut piece = [0; 32];
-    put::put_bytes(&mut piece, 0, &x[last..]);
-    put::put_bytes(out, 5 + last, &piece);
-}
-
-// The room was tested by the caller, so that no put refuses. As many zeros as padding can be are stored before the payload,
-// which then stands over those that are too many: their number is a constant, so that they take two stores and no loop.
+// The caller tested the room.
 fn seal(payload: &[u8], padding: u8, len: u32, out: &mut [u8])
     requires { (padding ≡ padding_length (length payload.now))
         × (len ≡ packet_length (length payload.now))
         × (4 + packet_length (length payload.now) ≤ length out.old) }
     ensures { out.new ≡ sets out.old 0 (frame payload.now) }
 {
-    fill_padding(out, 4 + len as usize - MOST_PADDING, MOST_PADDING);
-    put::put_u32(out, 0, len);
-    put::put_u8(out, 4, padding);
-    put_payload(out, payload);
+    let end = 5 + payload.len();
+    out[..4].copy_from_slice(&len.to_be_bytes());
+    out[4] = padding;
+    out[5..end].copy_from_slice(payload);
+    out[end..end + usize::from(padding)].fill(0);
 }
 
-pub fn write(payload: &[u8], k: Counters, out: &mut [u8]) -> Sealed
+#[tactic(auto, using(crate::proofs::SealingLaws::write_laws))]
+pub fn write(payload: &[u8], k: Counters, out: &mut [u8]) -> Result<Sealed, Cause>
     ensures answer { wrote result ≡ sealing out.old payload.now k }
     ensures bytes { out.new ≡ buffer out.old 0 (packet_of payload.now) }
 {
     let padding = padding_length(payload);
     let len = 1 + payload.len() + padding;
-    let j = crate::judge_length(len);
-    let Checked::Fine = j else {
-        return Sealed::Refused(PACKET_SIZE);
-    };
+    judge_length(len)?;
     if out.len() < len + 4 {
-        return Sealed::Refused(NO_ROOM);
+        return Err(Cause::NoRoom);
     }
     seal(payload, padding as u8, len as u32, out);
-    Sealed::Total(len + 4, k.count(payload.len()))
+    Ok(Sealed {
+        total: len + 4,
+        counters: k.count(payload.len()),
+    })
 }
