@@ -7,8 +7,8 @@ ghost use Rattle.names.specs.Constant.{AreConstant};
 
 use super::Columns;
 
-// The constant columns, lent.
-pub fn columns() -> Columns<'static>
+// The constant columns, lent for as long as is asked.
+pub fn columns<'a>() -> Columns<'a>
     ensures { AreConstant result }
 {
     Columns {

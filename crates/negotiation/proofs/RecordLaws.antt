@@ -1,22 +1,15 @@
 -- Laws of the record that the last stage makes. Assumes nothing.
-use mathlib.Core.Path.{◌≡◌, ap, sym}
-use mathlib.Core.Bool.{Bool}
+use mathlib.Core.Path.{◌≡◌}
 use Prim.Native.Nat.{ℕ, ◌-◌, ◌≤◌, ◌<◌}
 use borrow.Author.Tests.{le-leb, lt-leb}
+use Rattle.std.specs.Prelude.{Result}
+use Rattle.answer.specs.declared.Refusal.{Refusal as Answered}
+use Rattle.answer.proofs.Laws.{outcome_unique}
 use Rattle.names.specs.Tables.{first_row}
 use Rattle.names.specs.declared.Kind.TheVariants.{Key, Certificate}
-use Rattle.answer.specs.Answer.{refused, done, ◌>>=◌}
-use Rattle.answer.specs.Refusal.{Refusal}
-use Rattle.answer.proofs.Laws.{un_done, un_refused, not_both}
-use Rattle.stages.specs.declared.Rows.{Rows}
-use Rattle.stages.specs.declared.GotRows.{GotRows}
-use Rattle.stages.specs.declared.GotRows.TheVariants.{Chosen, Refused as Unread}
-use Rattle.stages.specs.Stages.{got_rows}
 use Rattle.negotiation.specs.declared.Names.{Names}
-use Rattle.negotiation.specs.declared.GotNames.{GotNames}
-use Rattle.negotiation.specs.declared.GotNames.TheVariants.{Settled, Refused as NotSettled}
 use Rattle.negotiation.specs.Read.{got_names}
-use Rattle.negotiation.specs.Rows.{key_place, recorded, in_names}
+use Rattle.negotiation.specs.Rows.{key_place}
 
 pub place_certificate : (row n : ℕ) → first_row Certificate ≤ row → n ≡ row - first_row Certificate → n ≡ key_place row
 unfolding key_place
@@ -26,19 +19,6 @@ pub place_key : (row n : ℕ) → row < first_row Certificate → n ≡ row - fi
 unfolding key_place
 place_key row n h e = rw (lt-leb (first_row Certificate) row h) e
 
--- what was read by rows, as the record
-module _ (got : GotRows) where
-  pub in_names_chosen : (k : Rows) (follows : Bool) (n : Names) → got ≡ Chosen k follows → n ≡ recorded k follows → done n ≡ in_names (got_rows got)
-  unfolding in_names ◌>>=◌
-  in_names_chosen k follows n e f = rw (e, f)
-
-  pub in_names_refused : (r : Refusal) → got ≡ Unread r → refused r ≡ in_names (got_rows got)
-  unfolding in_names ◌>>=◌
-  in_names_refused r e = rw e
-
 -- no two answers have one meaning
-pub got_names_unique : (a b : GotNames) → got_names a ≡ got_names b → a ≡ b
-got_names_unique (Settled m) (Settled n) h = ap Settled (un_done h)
-got_names_unique (Settled m) (NotSettled r) h = absurd (not_both h)
-got_names_unique (NotSettled q) (Settled n) h = absurd (not_both (sym h))
-got_names_unique (NotSettled q) (NotSettled r) h = ap NotSettled (un_refused h)
+pub got_names_unique : (a b : Result Names Answered) → got_names a ≡ got_names b → a ≡ b
+got_names_unique a b h = outcome_unique (λ n. n) (λ m n e. e) a b h

@@ -1,8 +1,9 @@
 -- What a side settles on when it reads a peer's KEXINIT (document 01, "KEXINIT", Reading and Choice): fields and choices
 -- alternate.
-use Rattle.std.specs.Prelude.{Bool, true, false, not, ◌&&◌, ◌||◌, List, ℕ, leb, eqb, length, get_or}
+use Rattle.std.specs.Prelude.{Bool, true, false, not, ◌&&◌, ◌||◌, List, ℕ, leb, eqb, length, get_or, Result}
 use Rattle.std.proofs.Math.Option.{Option, some, none}
-use Rattle.answer.specs.Answer.{Out, refused, done, refuse_at, guard, pick, ◌>>=◌}
+use Rattle.answer.specs.declared.Refusal.{Refusal as Answered}
+use Rattle.answer.specs.Answer.{Out, done, refuse_at, guard, pick, outcome, ◌>>=◌}
 use Rattle.text.specs.Same.{same}
 use Rattle.text.specs.Literal.{bytes}
 use Rattle.wire.specs.Fields.{here, byte, word, string, end}
@@ -16,8 +17,6 @@ use Rattle.judging.specs.Tables.{Tables, valid}
 use Rattle.filters.specs.Picked.{member}
 use Rattle.preferred.specs.Own.{strict_name, other, chosen_kex}
 use Rattle.negotiation.specs.declared.Names.{Names}
-use Rattle.negotiation.specs.declared.GotNames.{GotNames}
-use Rattle.negotiation.specs.declared.GotNames.TheVariants.{Settled, Refused as NotSettled}
 use Rattle.negotiation.specs.KexInit.{offer}
 use Rattle.negotiation.specs.Written.{key_list, cipher_list, mac_list, compression_list}
 
@@ -135,7 +134,6 @@ read_kex t strict_agreed p = do
       (not (eqb follows 0) && not (both_first (spelled_rows (chosen_kex t)) kexes && both_first (key_list t) keys))
       (strict t strict_agreed kexes))
 
--- what a `GotNames` means
-abbrev pub got_names : GotNames → Out Names
-got_names (Settled n) = done n
-got_names (NotSettled r) = refused r
+-- what the names that were settled mean
+abbrev pub got_names : Result Names Answered → Out Names
+got_names r = outcome (λ n. n) r

@@ -1,9 +1,8 @@
 -- What the code hands over between reading by rows and the record, which holds typed numbers.
-use Rattle.std.specs.Prelude.{Bool, not, ◌&&◌, List, ℕ, ◌-◌, leb, take}
+use Rattle.std.specs.Prelude.{Bool, not, ◌&&◌, List, ℕ, ◌-◌, leb}
 use Rattle.answer.specs.Answer.{Out, done, pick, ◌>>=◌}
 use Rattle.names.specs.Tables.{first_row}
 use Rattle.names.specs.declared.Kind.TheVariants.{Key, Certificate, Cipher, Mac, Compression}
-use Rattle.filters.specs.declared.RowList.{RowList}
 use Rattle.stages.specs.declared.Rows.{Rows}
 use Rattle.negotiation.specs.declared.Names.{Names}
 
@@ -33,7 +32,3 @@ unfoldable pub in_names : Out (Rows × Bool) → Out Names
 in_names m = do
   (k, follows) ← m
   done (recorded k follows)
-
--- the rows of an own list
-abbrev pub front : RowList → List ℕ
-front l = take l.len l.rows

@@ -7,11 +7,10 @@
 mod read;
 mod rows;
 
-use answer::Refusal;
 use names::{CipherId, CompressionId, KexId, KeyId, MacId};
 pub use read::read_kex;
 
-#[derive(Clone, Copy)]
+#[derive(Clone, Copy, Debug, PartialEq, Eq)]
 pub struct Flags {
     pub host_key_is_certificate: bool,
     pub ignore_guessed: bool,
@@ -19,7 +18,7 @@ pub struct Flags {
 }
 
 // What was settled: `Names` of the Rust.
-#[derive(Clone, Copy)]
+#[derive(Clone, Copy, Debug, PartialEq, Eq)]
 pub struct Names {
     pub kex: KexId,
     pub key: KeyId,
@@ -29,10 +28,4 @@ pub struct Names {
     pub client_compression: CompressionId,
     pub server_compression: CompressionId,
     pub flags: Flags,
-}
-
-#[derive(Clone, Copy)]
-pub enum GotNames {
-    Settled(Names),
-    Refused(Refusal),
 }

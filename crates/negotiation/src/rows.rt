@@ -3,16 +3,14 @@
 // Copyright 2016 Pierre-Étienne Meunier, licensed under the Apache License, Version 2.0 (NOTICE); changed: rewritten for
 // lent slices and tables of numbers.
 ghost use Rattle.std.specs.Prelude.{◌≡◌};
-ghost use Rattle.stages.specs.Stages.{got_rows};
-ghost use Rattle.negotiation.specs.Read.{got_names};
-ghost use Rattle.negotiation.specs.Rows.{key_place, recorded, in_names};
+ghost use Rattle.negotiation.specs.Rows.{key_place, recorded};
 
-use crate::{Flags, GotNames, Names};
+use crate::{Flags, Names};
 use names::{
     CipherId, CompressionId, FIRST_CERTIFICATE, FIRST_CIPHER, FIRST_COMPRESSION, FIRST_KEY,
     FIRST_MAC, KexId, KeyId, MacId,
 };
-use stages::{GotRows, Rows, number};
+use stages::{Rows, number};
 
 fn key_number(row: u8) -> u8
     ensures { result ≡ key_place row }
@@ -23,7 +21,7 @@ fn key_number(row: u8) -> u8
     number(row, FIRST_KEY)
 }
 
-fn record(k: Rows, follows: bool) -> Names
+pub fn record(k: Rows, follows: bool) -> Names
     ensures { result ≡ recorded k follows }
 {
     let flags = Flags {
@@ -40,14 +38,5 @@ fn record(k: Rows, follows: bool) -> Names
         client_compression: CompressionId(number(k.client_compression, FIRST_COMPRESSION)),
         server_compression: CompressionId(number(k.server_compression, FIRST_COMPRESSION)),
         flags,
-    }
-}
-
-pub fn in_names(got: GotRows) -> GotNames
-    ensures { got_names result ≡ in_names (got_rows got) }
-{
-    match got {
-        GotRows::Chosen(k, follows) => GotNames::Settled(record(k, follows)),
-        GotRows::Refused(r) => GotNames::Refused(r),
     }
 }

@@ -1,23 +1,25 @@
-use mathlib.Core.Bool.{true}
-use mathlib.Core.List.{[]}
-use Rattle.negotiation.proofs.OwnLaws.{entry_laws, own_fit, read_staged}
+use Rattle.negotiation.proofs.OwnLaws.{read_invalid, entry_laws, rows_out, rows_on}
 use Rattle.negotiation.proofs.read.read_kex.Goals as goal
 
-pub returns-then-own-ne0 : goal.returns-then-own-ne0
-returns-then-own-ne0 c = search entry_laws
+pub returns-in_err-own : goal.returns-in_err-own
+returns-in_err-own c = read_invalid _ _ _ _ _ c.in_err-own.ensures c.from_residual.ensures
 
 pub returns-then-p-gt-MAXIMUM_KEXINIT : goal.returns-then-p-gt-MAXIMUM_KEXINIT
-returns-then-p-gt-MAXIMUM_KEXINIT c = search entry_laws
+returns-then-p-gt-MAXIMUM_KEXINIT c = search (entry_laws, c.in_ok-own.ensures)
 
 pub returns-then-p-lt-FIRST_LIST : goal.returns-then-p-lt-FIRST_LIST
-returns-then-p-lt-FIRST_LIST c = search entry_laws
+returns-then-p-lt-FIRST_LIST c = search (entry_laws, c.in_ok-own.ensures)
 
-pub read_lists-requires : goal.read_lists-requires
-read_lists-requires c =
-    let f = own_fit _ _ c.own_lists-own.ensures true [] c.if-own-ne0.false in
-    (f.kex, f.key, f.cipher, f.mac, f.compression)
+pub returns-in_err-rows : goal.returns-in_err-rows
+returns-in_err-rows c =
+    rows_out _ _ _ _ c.in_ok-own.ensures c.if-p-gt-MAXIMUM_KEXINIT.false c.if-p-lt-FIRST_LIST.false _ c.columns-names.ensures
+    _ _ c.strict_name.ensures _ c.contains-asked.ensures.value _ c.other.ensures c.strict_name-2.ensures
+    _ _ _ _ _ c.deref.ensures.0 c.deref-2.ensures.0 c.deref-3.ensures.0 c.deref-4.ensures.0 c.deref-5.ensures.0
+    _ c.read_rows.ensures _ c.branch-rows.ensures _ _ c.in_err-rows.is c.from_residual-in_err-rows.ensures
 
 pub returns : goal.returns
 returns c =
-    read_staged _ _ c.own_lists-own.ensures _ _ c.if-own-ne0.false _ _ _ c.strict_name.ensures c.member-asked.ensures
-    c.if-p-gt-MAXIMUM_KEXINIT.false c.if-p-lt-FIRST_LIST.false c.read_lists.ensures
+    rows_on _ _ _ _ c.in_ok-own.ensures c.if-p-gt-MAXIMUM_KEXINIT.false c.if-p-lt-FIRST_LIST.false _ c.columns-names.ensures
+    _ _ c.strict_name.ensures _ c.contains-asked.ensures.value _ c.other.ensures c.strict_name-2.ensures
+    _ _ _ _ _ c.deref.ensures.0 c.deref-2.ensures.0 c.deref-3.ensures.0 c.deref-4.ensures.0 c.deref-5.ensures.0
+    _ c.read_rows.ensures _ c.branch-rows.ensures _ _ c.in_ok-rows.is c.record.ensures
