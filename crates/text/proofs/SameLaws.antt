@@ -1,12 +1,13 @@
 -- Laws of bytes compared, of the first of them, and of US-ASCII. Assumes nothing.
-use mathlib.Core.Bool.{Bool, true, false, ◌&&◌, and_assoc, and-true}
+use mathlib.Core.Bool.{Bool, true, false, ◌&&◌, and_assoc, and-true, and-false}
+use mathlib.Core.Logic.{◌⊎◌, inl, inr}
 use mathlib.Core.List.{List, [], ◌∷◌, ◌++◌}
-use mathlib.Core.Path.{◌≡◌, refl, sym, ◌∙◌}
-use Prim.Native.Nat.{ℕ, max, ◌<◌}
+use mathlib.Core.Path.{◌≡◌, refl, sym, ◌∙◌, ap}
+use Prim.Native.Nat.{ℕ, suc, max, ◌<◌}
 use native.Mathlib.Omega.{arith}
 use borrow.Author.Tests.{ltb-true, lt-ltb, eqb-true, eq-eqb}
 use lib.Dec.{eqb, ltb}
-use Rattle.std.specs.Prelude.{nat_eq}
+use Rattle.std.specs.Prelude.{nat_eq, length}
 use Rattle.std.specs.List.{fold}
 use Rattle.std.specs.Cmp.Lexicographic.{pointwise}
 use Rattle.answer.proofs.Laws.{never, and_left, and_right}
@@ -25,6 +26,33 @@ same_pointwise [] [] = refl
 same_pointwise [] (b ∷ t) = refl
 same_pointwise (a ∷ s) [] = refl
 same_pointwise (a ∷ s) (b ∷ t) = rw (same_pointwise s t)
+
+-- bytes compared in pairs: what is compared so far, and what is left, give the answer
+module _ (s t : List ℕ) (ok : Bool) (xs ys : List ℕ) (e : length xs ≡ length ys) (inv : same s t ≡ (ok && same xs ys)) where
+  pub same_turn : (r : Bool) (x y : ℕ) (us vs : List ℕ) → xs ≡ x ∷ us → ys ≡ y ∷ vs → r ≡ (ok && eqb x y) → (length us ≡ length vs) × (same s t ≡ (r && same us vs))
+  unfolding same
+  same_turn r x y us vs p q f =
+      let l : length us ≡ length vs = omega (arith, ap length p, ap length q) in
+      (l, rw (inv, p, q, f) (sym (and_assoc ok (eqb x y) (same us vs))))
+
+  pub same_end : (xs ≡ []) ⊎ (ys ≡ []) → ok ≡ same s t
+  unfolding same
+  same_end h =
+      let p : length xs ≡ 0 = elim h [ inl n ↦ ap length n | inr n ↦ e ∙ ap length n ] in
+      let q : length ys ≡ 0 = omega arith in
+      rw (inv, none xs p, none ys q) (sym (and-true ok))
+    where
+      none : (l : List ℕ) → length l ≡ 0 → l ≡ []
+      none [] z = refl
+      none (b ∷ l) z = cc
+
+-- strings of two lengths are not the same
+pub same_lengths : (s t : List ℕ) → (length s ≡ length t → ⊥) → same s t ≡ false
+unfolding same
+same_lengths [] [] n = absurd (n refl)
+same_lengths [] (b ∷ t) n = refl
+same_lengths (a ∷ s) [] n = refl
+same_lengths (a ∷ s) (b ∷ t) n = rw (same_lengths s t (λ e. n (ap suc e))) (and-false (eqb a b))
 
 -- a string is the same as itself
 pub same_self : (s : List ℕ) → same s s ≡ true
