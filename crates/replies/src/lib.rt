@@ -2,24 +2,16 @@
 // src/parsing.rs of russh; and the fields that an opening and a confirmation share.
 #![tactic(auto)]
 
-use answer::Refusal;
-
 mod confirmation;
 mod failure;
 pub mod offer;
 
 pub use failure::{fail, unknown_type};
 
-#[derive(Clone, Copy)]
+#[derive(Clone, Copy, Debug, PartialEq, Eq)]
 pub struct ChannelOpenConfirmation {
     pub recipient_channel: u32,
     pub sender_channel: u32,
     pub initial_window_size: u32,
     pub maximum_packet_size: u32,
-}
-
-#[derive(Clone, Copy)]
-pub enum GotConfirmation {
-    Confirmed(ChannelOpenConfirmation),
-    Refused(Refusal),
 }

@@ -6,13 +6,13 @@ pub returns-then-body-gt-MOST_BODY : goal.returns-then-body-gt-MOST_BODY
 unfolding read_confirmation
 returns-then-body-gt-MOST_BODY c = search steps
 
-pub returns-in_default : goal.returns-in_default
+pub returns-in_err-recipient_channel : goal.returns-in_err-recipient_channel
 unfolding read_confirmation
-returns-in_default c = search steps
+returns-in_err-recipient_channel c = search steps
 
-pub returns-in_default-o : goal.returns-in_default-o
+pub returns-in_err-offer : goal.returns-in_err-offer
 unfolding read_confirmation
-returns-in_default-o c = search steps
+returns-in_err-offer c = search steps
 
 pub returns : goal.returns
 unfolding read_confirmation
