@@ -1,10 +1,9 @@
 -- A list judged and measured is the list that the definition gives. Assumes nothing.
 use mathlib.Core.Path.{◌≡◌, refl, sym, ap, ◌∙◌}
-use mathlib.Core.Bool.{Bool, true, false, not}
+use mathlib.Core.Bool.{Bool, true, false}
 use mathlib.Core.List.{List, [], ◌∷◌, ◌++◌}
 use Prim.Native.Nat.{ℕ, ◌+◌, ◌-◌, ◌≤◌, ◌<◌, min}
 use native.Mathlib.Omega.{arith}
-use borrow.Author.Tests.{not-true, not-false}
 use lib.ListN.{length, length-append}
 use lib.Seq.{sets}
 use Rattle.answer.specs.Answer.{Out, done, refuse, ◌>>=◌}
@@ -13,7 +12,8 @@ use Rattle.put.specs.Written.{string, word}
 use Rattle.put.proofs.PutLaws.{string_short, string_long, word_length}
 use Rattle.commas.specs.Cut.{join}
 use Rattle.names.specs.Tables.{all_names}
-use Rattle.names.specs.Spelled.{there, row_name, name_at}
+use Rattle.names.specs.declared.rows.Columns.{Columns}
+use Rattle.names.specs.Spelled.{there, row_name, spelled_by, name_at}
 use Rattle.put.proofs.WriterLaws.{Puts, full_put, stored_put}
 use Rattle.names.proofs.RowLaws.{shown, row_outside}
 use Rattle.names.proofs.ColumnLaws.{flat, starts, lengths, row_name_lem}
@@ -50,9 +50,9 @@ pub measured_length : (name : ℕ → Out (List ℕ)) (rows : List ℕ) (total l
 measured_length name rows total len e f =
     omega (arith, size_ends 0 (texts name rows) (omega arith), join_ends (texts name rows))
 
-module _ (spellings starts lengths rows : List ℕ) where
+module _ (t : Columns) (rows : List ℕ) where
   abbrev name : ℕ → Out (List ℕ)
-  name = row_name spellings starts lengths
+  name = spelled_by t
 
   names_none : (ns : List ℕ) → named name ns ≡ false → names_by name ns ≡ refuse 9
   unfolding named names_by ◌>>=◌
@@ -60,7 +60,7 @@ module _ (spellings starts lengths rows : List ℕ) where
   names_none (n ∷ ns) h =
       split (there (name n))
       (λ e. rw (shown (name n) e, names_none ns (rw e at h)))
-      (λ e. rw (row_outside spellings starts lengths n e))
+      (λ e. rw (row_outside t.spellings.now t.starts.now t.lengths.now n e))
 
   names_all : (ns : List ℕ) → named name ns ≡ true → names_by name ns ≡ done (texts name ns)
   unfolding named names_by texts ◌>>=◌
@@ -72,17 +72,17 @@ module _ (spellings starts lengths rows : List ℕ) where
 
   -- what the code tells on its way
   module _ (all : Bool) (judged : all ≡ named name rows) where
-    pub list_unnamed : not all ≡ true → list_by name rows ≡ refuse 9
+    pub list_unnamed : all ≡ false → list_by name rows ≡ refuse 9
     unfolding list_by ◌>>=◌
-    list_unnamed h = rw (names_none rows (sym judged ∙ not-true all h))
+    list_unnamed h = rw (names_none rows (sym judged ∙ h))
 
-    module _ (h : not all ≡ false) (total : ℕ) (measured : total ≡ size_from 0 (texts name rows)) where
+    module _ (h : all ≡ true) (total : ℕ) (measured : total ≡ size_from 0 (texts name rows)) where
       sized : total ≡ min (ends (texts name rows)) most
       sized = measured ∙ size_ends 0 (texts name rows) (omega arith) ∙ omega arith
 
       listed : list_by name rows ≡ string (join (texts name rows))
       unfolding list_by ◌>>=◌
-      listed = rw (names_all rows (sym judged ∙ not-false all h))
+      listed = rw (names_all rows (sym judged ∙ h))
 
       pub list_long : most ≤ total → list_by name rows ≡ refuse 1
       list_long l = listed ∙ string_long (join (texts name rows)) (omega (arith, sized, join_ends (texts name rows)))

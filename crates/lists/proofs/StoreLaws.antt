@@ -10,7 +10,6 @@ use Rattle.put.specs.Written.{written, buffer, word}
 use Rattle.put.proofs.PutLaws.{sets_append, written_fits, buffer_fits, word_length}
 use Rattle.commas.specs.Cut.{join}
 use Rattle.wire.specs.Shown.{bytes_of}
-use Rattle.names.specs.Spelled.{row_name}
 use Rattle.lists.specs.Texts.{texts, name_and_comma}
 use Rattle.put.specs.Runs.{next_or}
 use Rattle.lists.proofs.WalkLaws.{next_row}
@@ -22,6 +21,8 @@ module _ (out x : List ℕ) (at : ℕ) (room : at + length x ≤ length out) whe
 
   pub put_bytes : (out' : List ℕ) → out' ≡ buffer out at (done x) → out' ≡ sets out at x
   put_bytes out' e = e ∙ buffer_fits out at x room
+
+pub ruleset store_laws = (put_next, put_bytes)
 
 -- x is to be written at `at` of `whole`; so far the buffer is `out`, and y is left, to be written at p
 pub record Left (whole : List ℕ) (at : ℕ) (x out : List ℕ) (p : ℕ) (y : List ℕ) : Type 0 where
@@ -54,73 +55,71 @@ pub left_none : (whole : List ℕ) (at : ℕ) (x out : List ℕ) (p : ℕ) → L
 left_none whole at x out p left = (omega (arith, left.end), sym left.bytes)
 
 -- a name and its comma
-module _ (spellings starts lengths : List ℕ) (row k : ℕ) (same : k ≡ row) (out x : List ℕ) (at : ℕ)
-    (fits : at + length (name_and_comma (row_name spellings starts lengths row)) ≤ length out)
-    (spelt : x ≡ bytes_of (row_name spellings starts lengths k)) where
-  cut_part : name_and_comma (row_name spellings starts lengths row) ≡ x ++ 44 ∷ []
+module _ (w : Out (List ℕ)) (out x : List ℕ) (at : ℕ) (fits : at + length (name_and_comma w) ≤ length out) (spelt : x ≡ bytes_of w) where
+  cut_part : name_and_comma w ≡ x ++ 44 ∷ []
   unfolding name_and_comma
-  cut_part = rw (spelt, same)
+  cut_part = rw spelt
 
-  before : Left out at (name_and_comma (row_name spellings starts lengths row)) out at (name_and_comma (row_name spellings starts lengths row))
-  before = left_all out at (name_and_comma (row_name spellings starts lengths row)) fits
+  before : Left out at (name_and_comma w) out at (name_and_comma w)
+  before = left_all out at (name_and_comma w) fits
 
   pub part_name : at + length x ≤ length out
   part_name = piece_room _ _ _ _ _ _ before x (44 ∷ []) cut_part
 
   module _ (out₁ : List ℕ) (p : ℕ) (e : p ≡ at + length x) (f : out₁ ≡ sets out at x) where
-    between : Left out at (name_and_comma (row_name spellings starts lengths row)) out₁ p (44 ∷ [])
+    between : Left out at (name_and_comma w) out₁ p (44 ∷ [])
     between = left_after _ _ _ _ _ _ before x (44 ∷ []) cut_part out₁ p e f
 
     pub part_comma : p + 1 ≤ length out₁
     part_comma = between.room
 
     pub part_whole : (out₂ : List ℕ) (r : ℕ) → (r ≡ p + 1) × (out₂ ≡ sets out₁ p (44 ∷ []))
-        → (r ≡ at + length (name_and_comma (row_name spellings starts lengths row))) × (out₂ ≡ sets out at (name_and_comma (row_name spellings starts lengths row)))
+        → (r ≡ at + length (name_and_comma w)) × (out₂ ≡ sets out at (name_and_comma w))
     part_whole out₂ r h = left_none _ _ _ _ _ (left_after _ _ _ _ _ _ between (44 ∷ []) [] refl out₂ r h.0 h.1)
 
 pub ruleset part_laws = (part_name, part_comma, part_whole)
 
-module _ (spellings starts lengths rows : List ℕ) (i : ℕ) where
-  abbrev name : ℕ → Out (List ℕ)
-  name = row_name spellings starts lengths
+-- the names of a list, but for the last one each with a comma
+module _ (name : ℕ → Out (List ℕ)) (front : List ℕ) (last : ℕ) where
+  abbrev pub from : ℕ → List ℕ
+  from i = join (texts name (drop i front ++ last ∷ []))
 
-  abbrev from : ℕ → List ℕ
-  from k = join (texts name (drop k rows))
-
-  pub join_more : i + 1 < length rows → from i ≡ name_and_comma (name (get_or rows i 0)) ++ from (i + 1)
-  unfolding texts join name_and_comma
-  join_more h =
-      let h₀ : i < length rows = omega arith in
-      rw (next_row rows i h₀, next_row rows (i + 1) h, append_assoc)
-
-  pub join_last : i + 1 ≡ length rows → from i ≡ bytes_of (name (get_or rows i 0))
+  join_cons : (x : List ℕ) (ns : List ℕ) → join (x ∷ texts name (ns ++ last ∷ [])) ≡ x ++ 44 ∷ join (texts name (ns ++ last ∷ []))
   unfolding texts join
-  join_last h =
-      let h₀ : i < length rows = omega arith in
-      let h₁ : length rows ≤ i + 1 = omega arith in
-      rw (next_row rows i h₀, drop_of_length-le rows h₁)
+  join_cons x [] = refl
+  join_cons x (n ∷ ns) = refl
+
+  join_more : (i : ℕ) → i < length front → from i ≡ name_and_comma (name (get_or front i 0)) ++ from (i + 1)
+  unfolding texts name_and_comma
+  join_more i h = rw (next_row front i h) (join_cons (bytes_of (name (get_or front i 0))) (drop (i + 1) front) ∙ rw append_assoc)
+
+  join_last : (i : ℕ) → length front ≤ i → from i ≡ bytes_of (name last)
+  unfolding texts join
+  join_last i h = rw (drop_of_length-le front h)
 
   -- the list so far
-  module _ (whole : List ℕ) (at : ℕ) (out : List ℕ) (p : ℕ) (left : Left whole at (join (texts name rows)) out p (from i)) where
-    pub names_room : i + 1 < length rows → p + length (name_and_comma (name (get_or rows i 0))) ≤ length out
-    names_room h = piece_room _ _ _ _ _ _ left (name_and_comma (name (get_or rows i 0))) (from (i + 1)) (join_more h)
+  module _ (rows whole : List ℕ) (at : ℕ) where
+    pub names_begin : rows ≡ front ++ (last ∷ []) → at + length (join (texts name rows)) ≤ length whole → Left whole at (join (texts name rows)) whole at (from 0)
+    names_begin e h = rw (← e) (left_all whole at (join (texts name rows)) h)
 
-    pub names_on : i + 1 < length rows → (out' : List ℕ) (p' : ℕ)
-        → (p' ≡ p + length (name_and_comma (name (get_or rows i 0)))) × (out' ≡ sets out p (name_and_comma (name (get_or rows i 0))))
-        → Left whole at (join (texts name rows)) out' p' (from (i + 1))
-    names_on h out' p' e = left_after _ _ _ _ _ _ left (name_and_comma (name (get_or rows i 0))) (from (i + 1)) (join_more h) out' p' e.0 e.1
+    module _ (i : ℕ) (out : List ℕ) (p : ℕ) (left : Left whole at (join (texts name rows)) out p (from i)) where
+      pub names_room : i < length front → p + length (name_and_comma (name (get_or front i 0))) ≤ length out
+      names_room h = piece_room _ _ _ _ _ _ left (name_and_comma (name (get_or front i 0))) (from (i + 1)) (join_more i h)
 
-    -- the last name
-    module _ (h : i + 1 ≡ length rows) (k n : ℕ) (read : n ≡ get_or rows k 0) (same : k ≡ i) (x : List ℕ) (spelt : x ≡ bytes_of (name n)) where
-      cut_last : from i ≡ x ++ []
-      cut_last = join_last h ∙ rw (append-nil, spelt, read, same)
+      pub names_on : i < length front → (out' : List ℕ) (p' : ℕ) → p' ≡ p + length (name_and_comma (name (get_or front i 0)))
+          → out' ≡ sets out p (name_and_comma (name (get_or front i 0))) → Left whole at (join (texts name rows)) out' p' (from (i + 1))
+      names_on h out' p' e f = left_after _ _ _ _ _ _ left (name_and_comma (name (get_or front i 0))) (from (i + 1)) (join_more i h) out' p' e f
 
-      pub last_room : p + length x ≤ length out
-      last_room = piece_room _ _ _ _ _ _ left x [] cut_last
+      module _ (h : length front ≤ i) (x : List ℕ) (spelt : x ≡ bytes_of (name last)) where
+        cut_last : from i ≡ x ++ []
+        cut_last = join_last i h ∙ rw (append-nil, spelt)
 
-      pub last_whole : (out' : List ℕ) (r : ℕ) → (r ≡ p + length x) × (out' ≡ sets out p x)
-          → (r ≡ at + length (join (texts name rows))) × (out' ≡ sets whole at (join (texts name rows)))
-      last_whole out' r e = left_none _ _ _ _ _ (left_after _ _ _ _ _ _ left x [] cut_last out' r e.0 e.1)
+        pub last_room : p + length x ≤ length out
+        last_room = piece_room _ _ _ _ _ _ left x [] cut_last
+
+        pub last_whole : (out' : List ℕ) (r : ℕ) → r ≡ p + length x → out' ≡ sets out p x
+            → (r ≡ at + length (join (texts name rows))) × (out' ≡ sets whole at (join (texts name rows)))
+        last_whole out' r e f = left_none _ _ _ _ _ (left_after _ _ _ _ _ _ left x [] cut_last out' r e f)
 
 pub no_names : (name : ℕ → Out (List ℕ)) (rows out : List ℕ) (at : ℕ) → length rows ≡ 0
     → (at ≡ at + length (join (texts name rows))) × (out ≡ sets out at (join (texts name rows)))

@@ -1,13 +1,9 @@
--- `lists::known`: the rows that are left still give the answer. Assumes nothing.
+-- The rows that are left still give the answer. Assumes nothing.
 use mathlib.Core.Path.{◌≡◌}
-use Prim.Native.Nat.{◌-◌}
-use lib.ListN.{length, drop}
-use Rattle.names.specs.Spelled.{row_name}
+use lib.ListN.{drop}
+use Rattle.names.specs.Spelled.{spelled_by}
 use Rattle.lists.specs.Texts.{named}
 use Rattle.lists.proofs.known.Given as goal
 
-abbrev pub invariant-loop-i : goal.invariant-loop-i
-invariant-loop-i l = named (row_name l.spellings l.starts l.lengths) l.rows ≡ named (row_name l.spellings l.starts l.lengths) (drop l.i l.rows)
-
-abbrev pub decreases-loop-i : goal.decreases-loop-i
-decreases-loop-i l = length l.rows - l.i
+abbrev pub invariant-loop-row : goal.invariant-loop-row
+invariant-loop-row l = named (spelled_by l.names) l.rows ≡ named (spelled_by l.names) (drop l.row-index l.rows)

@@ -1,4 +1,4 @@
--- `lists::store_part`: two runs of stores are one. Assumes nothing.
+-- Two runs of stores are one. Assumes nothing.
 use Rattle.lists.proofs.StoreLaws.{part_laws, part_whole}
 use Rattle.lists.proofs.store_part.Goals as goal
 
@@ -10,5 +10,6 @@ store-requires c = search part_laws
 
 pub returns : goal.returns
 returns c =
-    let both = part_whole _ _ _ _ _ c.wide.ensures.0 _ _ _ c.requires c.spelling.ensures _ _ c.store-p.ensures.next c.store-p.ensures.bytes _ _ (c.store.ensures.next, c.store.ensures.bytes) in
+    let both = part_whole _ _ _ _ c.requires c.spelt.ensures _ _ c.store-p.ensures.next c.store-p.ensures.bytes _ _
+    (c.store.ensures.next, c.store.ensures.bytes) in
     record { next = both.0; bytes = both.1 }
