@@ -1,6 +1,7 @@
 -- Opening bodies (RFC 4254 section 5.1): document 01, "Channel opening". A body starts after the message number.
-use Rattle.std.specs.Prelude.{List, ℕ, leb, length}
-use Rattle.answer.specs.Answer.{Out, refused, done, guard, ◌>>=◌}
+use Rattle.std.specs.Prelude.{List, ℕ, leb, length, Result}
+use Rattle.answer.specs.declared.Refusal.{Refusal as Answered}
+use Rattle.answer.specs.Answer.{Out, done, guard, outcome, ◌>>=◌}
 use Rattle.wire.specs.declared.place.Place.{Place}
 use Rattle.wire.specs.Fields.{here, string}
 use Rattle.replies.specs.Confirmation.{most_body, offer}
@@ -8,8 +9,6 @@ use Rattle.layouts.specs.declared.ChannelType.{ChannelType}
 use Rattle.layouts.specs.declared.ChannelType.TheVariants.{Session, X11, DirectTcpip, DirectStreamLocal, ForwardedTcpIp, ForwardedStreamLocal, AgentForward, Unknown}
 use Rattle.layouts.specs.Types.{channel_type}
 use Rattle.channels.specs.declared.OpenChannelMessage.{OpenChannelMessage}
-use Rattle.channels.specs.declared.GotOpen.{GotOpen}
-use Rattle.channels.specs.declared.GotOpen.TheVariants.{Message, Refused as NotOpened}
 
 -- "An opening body: type, sender, window, maximum packet, then 6 on 0, before the type is looked at."
 -- (docs/DIFFERENCES.md, R20)
@@ -43,6 +42,5 @@ rest_of AgentForward = nowhere
 rest_of (Unknown typ rest) = rest
 
 -- what the code's answer means: document 01's number, or the values
-abbrev pub got_open : GotOpen → Out OpenChannelMessage
-got_open (Message m) = done m
-got_open (NotOpened r) = refused r
+abbrev pub got_open : Result OpenChannelMessage Answered → Out OpenChannelMessage
+got_open r = outcome (λ m. m) r

@@ -2,19 +2,18 @@
 use mathlib.Core.Path.{◌≡◌}
 use Prim.Native.Nat.{ℕ}
 use Rattle.answer.specs.Answer.{refused, done, ◌>>=◌}
+use Rattle.std.specs.Prelude.{Result}
+use Rattle.answer.specs.declared.Refusal.{Refusal as Answered}
 use Rattle.answer.specs.Refusal.{Refusal}
+use Rattle.answer.proofs.Laws.{outcome_unique}
 use Rattle.wire.specs.Fields.{At, Run, word, string}
 use Rattle.layouts.specs.declared.ChannelType.TheVariants.{DirectStreamLocal, ForwardedStreamLocal}
-use Rattle.layouts.specs.declared.GotType.{GotType}
-use Rattle.layouts.specs.declared.GotType.TheVariants.{Typ, Refused as NoType}
+use Rattle.layouts.specs.declared.ChannelType.{ChannelType}
 use Rattle.layouts.specs.Types.{exact, direct_stream_local, forwarded_stream_local, got_type}
 
 -- no two answers have one meaning
-pub got_type_unique : (a b : GotType) → got_type a ≡ got_type b → a ≡ b
-got_type_unique (Typ t) (Typ u) e = cc
-got_type_unique (Typ t) (NoType r) e = cc
-got_type_unique (NoType r) (Typ t) e = cc
-got_type_unique (NoType q) (NoType r) e = cc
+pub got_type_unique : (a b : Result ChannelType Answered) → got_type a ≡ got_type b → a ≡ b
+got_type_unique a b e = outcome_unique (λ t. t) (λ t u h. h) a b e
 
 -- the reserved fields of the streamlocal types: what is wrong with one is refused with its number ..
 module _ (c c₁ : At) (path : Run) (e : string c ≡ done (path, c₁)) where

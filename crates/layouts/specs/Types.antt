@@ -1,7 +1,8 @@
 -- The channel types (RFC 4254 sections 6.3.2 and 7.2; the @openssh.com types follow src/parsing.rs): what follows the four
 -- fields of an opening. Document 01, "Channel opening".
-use Rattle.std.specs.Prelude.{Bool, true, false, length}
-use Rattle.answer.specs.Answer.{Out, refused, done, pick, ◌>>=◌}
+use Rattle.std.specs.Prelude.{length, Result}
+use Rattle.answer.specs.declared.Refusal.{Refusal as Answered}
+use Rattle.answer.specs.Answer.{Out, done, pick, outcome, ◌>>=◌}
 use Rattle.text.specs.Literal.{bytes}
 use Rattle.text.specs.Same.{same}
 use Rattle.wire.specs.declared.place.Place.{Place}
@@ -9,8 +10,6 @@ use Rattle.wire.specs.Fields.{At, Run, word, string, end}
 use Rattle.layouts.specs.declared.ChannelType.{ChannelType}
 use Rattle.layouts.specs.declared.ChannelType.TheVariants.{Session, X11, DirectTcpip, DirectStreamLocal, ForwardedTcpIp, ForwardedStreamLocal, AgentForward, Unknown}
 use Rattle.layouts.specs.declared.TcpChannelInfo.{TcpChannelInfo}
-use Rattle.layouts.specs.declared.GotType.{GotType}
-use Rattle.layouts.specs.declared.GotType.TheVariants.{Typ, Refused as NoType}
 
 -- a known type, once its fields are read: "end". `session` and `auth-agent@openssh.com` have no field of their own
 unfoldable pub exact : ChannelType → At → Out ChannelType
@@ -36,11 +35,6 @@ tcpip made c = do
       (made
       (record { host_to_connect = host.place; port_to_connect = port; originator_address = address.place; originator_port = from }))
       c₄
-
--- the two types that share a layout
-abbrev pub tcp_type : Bool → TcpChannelInfo → ChannelType
-tcp_type true = ForwardedTcpIp
-tcp_type false = DirectTcpip
 
 -- `direct-streamlocal@openssh.com`: path, string, u32, end; the last two are reserved: read and judged, not kept
 -- (docs/DIFFERENCES.md, R20)
@@ -81,6 +75,5 @@ channel_type t c =
     (openssh_type t c))))
 
 -- what the code's answer means: document 01's number, or the type
-abbrev pub got_type : GotType → Out ChannelType
-got_type (Typ t) = done t
-got_type (NoType r) = refused r
+abbrev pub got_type : Result ChannelType Answered → Out ChannelType
+got_type r = outcome (λ t. t) r

@@ -3,12 +3,14 @@
 #![tactic(auto)]
 
 ghost use Rattle.std.specs.Prelude.{◌≡◌};
+ghost use Rattle.answer.specs.Answer.{outcome};
 ghost use Rattle.wire.specs.Fields.{here};
+ghost use Rattle.layouts.specs.declared.ChannelType.{ChannelType};
+ghost use Rattle.layouts.specs.declared.TcpChannelInfo.{TcpChannelInfo};
 ghost use Rattle.layouts.specs.Types.{
   exact as exactly,
   x11 as x11_fields,
-  tcpip as tcpip_fields,
-  tcp_type,
+  tcpip,
   direct_stream_local,
   forwarded_stream_local,
   left_at,
@@ -18,9 +20,9 @@ ghost use Rattle.layouts.specs.Types.{
 };
 
 use answer::Refusal;
-use wire::answers::{Checked, Cursor, GotText, GotWord, Place};
+use wire::{Cursor, Place};
 
-#[derive(Clone, Copy)]
+#[derive(Clone, Copy, Debug, PartialEq, Eq)]
 pub struct TcpChannelInfo {
     pub host_to_connect: Place,
     pub port_to_connect: u32,
@@ -28,13 +30,13 @@ pub struct TcpChannelInfo {
     pub originator_port: u32,
 }
 
-#[derive(Clone, Copy)]
+#[derive(Clone, Copy, Debug, PartialEq, Eq)]
 pub struct StreamLocalChannelInfo {
     pub socket_path: Place,
 }
 
 // `rest` is what follows the four fields of a type that is not known.
-#[derive(Clone, Copy)]
+#[derive(Clone, Copy, Debug, PartialEq, Eq)]
 pub enum ChannelType {
     Session,
     X11 {
@@ -52,119 +54,60 @@ pub enum ChannelType {
     },
 }
 
-#[derive(Clone, Copy)]
-pub enum GotType {
-    Typ(ChannelType),
-    Refused(Refusal),
-}
-
-fn exact(body: &[u8], c: Cursor, typ: ChannelType) -> GotType
+fn exact(body: &[u8], c: Cursor, typ: ChannelType) -> Result<ChannelType, Refusal>
     ensures { got_type result ≡ exactly typ (here body.now c.at) }
 {
-    let e = c.end(body);
-    let Checked::Fine = e else {
-        return GotType::Refused(e.why());
-    };
-    GotType::Typ(typ)
+    c.end(body)?;
+    Ok(typ)
 }
 
-fn x11(body: &[u8], c: Cursor) -> GotType
+fn x11(body: &[u8], c: Cursor) -> Result<ChannelType, Refusal>
     ensures { got_type result ≡ x11_fields (here body.now c.at) }
 {
-    let a = c.string(body);
-    let GotText::Text(originator_address, c1) = a else {
-        return GotType::Refused(a.why());
+    let (originator_address, c) = c.string(body)?;
+    let (originator_port, c) = c.u32(body)?;
+    let typ = ChannelType::X11 {
+        originator_address,
+        originator_port,
     };
-    let p = c1.u32(body);
-    let GotWord::Word(originator_port, c2) = p else {
-        return GotType::Refused(p.why());
-    };
-    exact(
-        body,
-        c2,
-        ChannelType::X11 {
-            originator_address,
-            originator_port,
-        },
-    )
+    exact(body, c, typ)
 }
 
-fn tcp_type(forwarded: bool, info: TcpChannelInfo) -> ChannelType
-    ensures { result ≡ tcp_type forwarded info }
+// What the two types of that layout carry, up to the body's end.
+fn tcp_info(body: &[u8], c: Cursor) -> Result<TcpChannelInfo, Refusal>
+    ensures { (made : TcpChannelInfo → ChannelType) → outcome made result ≡ tcpip made (here body.now c.at) }
 {
-    if forwarded {
-        return ChannelType::ForwardedTcpIp(info);
-    }
-    ChannelType::DirectTcpip(info)
-}
-
-fn tcpip(body: &[u8], c: Cursor, forwarded: bool) -> GotType
-    ensures { got_type result ≡ tcpip_fields (tcp_type forwarded) (here body.now c.at) }
-{
-    let h = c.string(body);
-    let GotText::Text(host_to_connect, c1) = h else {
-        return GotType::Refused(h.why());
-    };
-    let p = c1.u32(body);
-    let GotWord::Word(port_to_connect, c2) = p else {
-        return GotType::Refused(p.why());
-    };
-    let a = c2.string(body);
-    let GotText::Text(originator_address, c3) = a else {
-        return GotType::Refused(a.why());
-    };
-    let q = c3.u32(body);
-    let GotWord::Word(originator_port, c4) = q else {
-        return GotType::Refused(q.why());
-    };
-    let info = TcpChannelInfo {
+    let (host_to_connect, c) = c.string(body)?;
+    let (port_to_connect, c) = c.u32(body)?;
+    let (originator_address, c) = c.string(body)?;
+    let (originator_port, c) = c.u32(body)?;
+    c.end(body)?;
+    Ok(TcpChannelInfo {
         host_to_connect,
         port_to_connect,
         originator_address,
         originator_port,
-    };
-    exact(body, c4, tcp_type(forwarded, info))
+    })
 }
 
 // The reserved fields of the two streamlocal types are read and judged, and not kept.
-fn direct_stream_local(body: &[u8], c: Cursor) -> GotType
+fn direct_stream_local(body: &[u8], c: Cursor) -> Result<ChannelType, Refusal>
     ensures { got_type result ≡ direct_stream_local (here body.now c.at) }
 {
-    let s = c.string(body);
-    let GotText::Text(socket_path, c1) = s else {
-        return GotType::Refused(s.why());
-    };
-    let a = c1.string(body);
-    let GotText::Text(_, c2) = a else {
-        return GotType::Refused(a.why());
-    };
-    let p = c2.u32(body);
-    let GotWord::Word(_, c3) = p else {
-        return GotType::Refused(p.why());
-    };
-    exact(
-        body,
-        c3,
-        ChannelType::DirectStreamLocal(StreamLocalChannelInfo { socket_path }),
-    )
+    let (socket_path, c) = c.string(body)?;
+    let (_, c) = c.string(body)?;
+    let (_, c) = c.u32(body)?;
+    let info = StreamLocalChannelInfo { socket_path };
+    exact(body, c, ChannelType::DirectStreamLocal(info))
 }
 
-fn forwarded_stream_local(body: &[u8], c: Cursor) -> GotType
+fn forwarded_stream_local(body: &[u8], c: Cursor) -> Result<ChannelType, Refusal>
     ensures { got_type result ≡ forwarded_stream_local (here body.now c.at) }
 {
-    let s = c.string(body);
-    let GotText::Text(socket_path, c1) = s else {
-        return GotType::Refused(s.why());
-    };
-    let a = c1.string(body);
-    let GotText::Text(_, c2) = a else {
-        return GotType::Refused(a.why());
-    };
-    exact(
-        body,
-        c2,
-        ChannelType::ForwardedStreamLocal(StreamLocalChannelInfo { socket_path }),
-    )
+    let (socket_path, c) = c.string(body)?;
+    let (_, c) = c.string(body)?;
+    let info = StreamLocalChannelInfo { socket_path };
+    exact(body, c, ChannelType::ForwardedStreamLocal(info))
 }
 
 // All that is left of the body.
@@ -178,40 +121,39 @@ fn left(body: &[u8], c: Cursor) -> Place
     }
 }
 
-fn openssh_type(body: &[u8], name: &[u8], typ: Place, c: Cursor) -> GotType
+// Kept: `text::same`, since of a match on the byte strings the proof of the last arm did not close, and `==` wants
+// `.as_slice()` at each; two functions, since of one the search for a proof takes too long.
+fn openssh_type(body: &[u8], name: &[u8], typ: Place, c: Cursor) -> Result<ChannelType, Refusal>
     ensures { got_type result ≡ openssh_type (record { place = typ; bytes = name.now }) (here body.now c.at) }
 {
     if text::same(name, b"direct-streamlocal@openssh.com") {
-        return direct_stream_local(body, c);
+        direct_stream_local(body, c)
+    } else if text::same(name, b"forwarded-streamlocal@openssh.com") {
+        forwarded_stream_local(body, c)
+    } else if text::same(name, b"auth-agent@openssh.com") {
+        exact(body, c, ChannelType::AgentForward)
+    } else {
+        Ok(ChannelType::Unknown {
+            typ,
+            rest: left(body, c),
+        })
     }
-    if text::same(name, b"forwarded-streamlocal@openssh.com") {
-        return forwarded_stream_local(body, c);
-    }
-    if text::same(name, b"auth-agent@openssh.com") {
-        return exact(body, c, ChannelType::AgentForward);
-    }
-    GotType::Typ(ChannelType::Unknown {
-        typ,
-        rest: left(body, c),
-    })
 }
 
 // The types of RFC 4254, then those of OpenSSH. `name` is the part of the body at `typ`, and `c` stands after the four fields
 // of every opening.
-pub fn channel_type(body: &[u8], name: &[u8], typ: Place, c: Cursor) -> GotType
+pub fn channel_type(body: &[u8], name: &[u8], typ: Place, c: Cursor) -> Result<ChannelType, Refusal>
     ensures { got_type result ≡ channel_type (record { place = typ; bytes = name.now }) (here body.now c.at) }
 {
     if text::same(name, b"session") {
-        return exact(body, c, ChannelType::Session);
+        exact(body, c, ChannelType::Session)
+    } else if text::same(name, b"x11") {
+        x11(body, c)
+    } else if text::same(name, b"direct-tcpip") {
+        tcp_info(body, c).map(ChannelType::DirectTcpip)
+    } else if text::same(name, b"forwarded-tcpip") {
+        tcp_info(body, c).map(ChannelType::ForwardedTcpIp)
+    } else {
+        openssh_type(body, name, typ, c)
     }
-    if text::same(name, b"x11") {
-        return x11(body, c);
-    }
-    if text::same(name, b"direct-tcpip") {
-        return tcpip(body, c, false);
-    }
-    if text::same(name, b"forwarded-tcpip") {
-        return tcpip(body, c, true);
-    }
-    openssh_type(body, name, typ, c)
 }

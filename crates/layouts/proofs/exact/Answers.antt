@@ -2,9 +2,9 @@ use Rattle.layouts.specs.Types.{exact}
 use Rattle.layouts.proofs.StepLaws.{steps}
 use Rattle.layouts.proofs.exact.Goals as goal
 
-pub returns-in_default : goal.returns-in_default
+pub returns-in_err-end : goal.returns-in_err-end
 unfolding exact
-returns-in_default c = search steps
+returns-in_err-end c = search steps
 
 pub returns : goal.returns
 unfolding exact

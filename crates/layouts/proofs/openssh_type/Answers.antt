@@ -14,6 +14,6 @@ pub returns-then-same-3 : goal.returns-then-same-3
 unfolding openssh_type
 returns-then-same-3 c = search names
 
-pub returns : goal.returns
+pub returns-else-same-3 : goal.returns-else-same-3
 unfolding openssh_type
-returns c = search names
+returns-else-same-3 c = search names
