@@ -1,10 +1,5 @@
 -- Laws of the rest of a body: one for each answer that the code gives. Assumes nothing.
 use mathlib.Core.Path.{◌≡◌, refl}
-use mathlib.Core.List.{List, [], ◌∷◌}
-use Prim.Native.Nat.{ℕ}
-use types.Run.{OneOf, miss}
-use denote.Enum.Declared.{tag_of}
-use Rattle.layouts.specs.contracts.ChannelType.{the_type}
 use Rattle.wire.specs.declared.place.Place.{Place}
 use Rattle.layouts.specs.declared.ChannelType.{ChannelType}
 use Rattle.layouts.specs.declared.ChannelType.TheVariants.{Session, X11, DirectTcpip, DirectStreamLocal, ForwardedTcpIp, ForwardedStreamLocal, AgentForward, Unknown}
@@ -21,15 +16,7 @@ rest_of_known (ForwardedStreamLocal info) k = refl
 rest_of_known AgentForward k = refl
 rest_of_known (Unknown typ rest) k = absurd (k typ rest refl)
 
--- the places of the known types among the variants
-abbrev known : List ℕ
-known = 0 ∷ 1 ∷ 2 ∷ 3 ∷ 4 ∷ 5 ∷ 6 ∷ []
-
--- the same, where it is said by the places
-pub known_rest : (t : ChannelType) → OneOf known (tag_of the_type t) → ◌≡◌ {A = Place} (record { start = 0; len = 0 }) (rest_of t)
-known_rest t k = rest_of_known t (λ p rest e. absurd (miss known 7 tt (rw e at k)))
-
 pub unknown_rest : (t : ChannelType) (p rest : Place) → t ≡ Unknown p rest → rest ≡ rest_of t
 unknown_rest t p rest e = rw e
 
-pub ruleset rest_laws = (known_rest, rest_of_known, unknown_rest)
+pub ruleset rest_laws = (rest_of_known, unknown_rest)

@@ -3,13 +3,14 @@
 
 ghost use Rattle.std.specs.Prelude.{◌≡◌};
 ghost use Rattle.framing.specs.Answers.{got_packet, wrote};
-ghost use Rattle.frames.specs.Frames.{no_packet, frame_of, sealed_of};
+ghost use Rattle.frames.specs.Frames.{frame_of, sealed_of};
 
-use framing::GotPacket;
+use answer::{Cause, Refusal};
+use framing::Opened;
 use shapes::{DONE, NEED, REFUSED};
 
 #[repr(C)]
-#[derive(Clone, Copy)]
+#[derive(Clone, Copy, Debug, Default, PartialEq, Eq)]
 pub struct Frame {
     pub what: u8,
     pub number: u8,
@@ -24,7 +25,7 @@ pub struct Frame {
 }
 
 #[repr(C)]
-#[derive(Clone, Copy)]
+#[derive(Clone, Copy, Debug, Default, PartialEq, Eq)]
 pub struct Sealed {
     pub what: u8,
     pub number: u8,
@@ -33,61 +34,55 @@ pub struct Sealed {
     pub bytes: u64,
 }
 
-fn no_packet(what: u8, number: u8, offset: usize, need: usize) -> Frame
-    ensures { result ≡ no_packet what number offset need }
-{
-    Frame {
-        what,
-        number,
-        offset,
-        need,
-        start: 0,
-        len: 0,
-        end: 0,
-        taken: 0,
-        seqn: 0,
-        bytes: 0,
+impl From<Result<Opened, Refusal>> for Frame {
+    ghost from_gives = { λ r f. f ≡ frame_of (got_packet r) };
+
+    #[tactic(auto, unfolding(crate::specs::Frames::frame_of))]
+    fn from(r: Result<Opened, Refusal>) -> Frame {
+        match r {
+            Ok(Opened::Need(need)) => Frame {
+                what: NEED,
+                need,
+                ..Frame::default()
+            },
+            Ok(Opened::Whole(p)) => Frame {
+                what: DONE,
+                start: p.payload.start,
+                len: p.payload.len,
+                end: p.end,
+                taken: p.taken,
+                seqn: p.counters.seqn,
+                bytes: p.counters.bytes,
+                ..Frame::default()
+            },
+            Err(refusal) => Frame {
+                what: REFUSED,
+                number: refusal.cause.number(),
+                offset: refusal.offset,
+                ..Frame::default()
+            },
+        }
     }
 }
 
-pub fn frame_of(g: GotPacket) -> Frame
-    ensures { result ≡ frame_of (got_packet g) }
-{
-    match g {
-        GotPacket::Need(n) => no_packet(NEED, 0, 0, n),
-        GotPacket::Whole(p) => Frame {
-            what: DONE,
-            number: 0,
-            offset: 0,
-            need: 0,
-            start: p.payload.start,
-            len: p.payload.len,
-            end: p.end,
-            taken: p.taken,
-            seqn: p.counters.seqn,
-            bytes: p.counters.bytes,
-        },
-        GotPacket::Refused(r) => no_packet(REFUSED, r.number, r.offset, 0),
-    }
-}
+impl From<Result<framing::Sealed, Cause>> for Sealed {
+    ghost from_gives = { λ r s. s ≡ sealed_of (wrote r) };
 
-pub fn sealed_of(s: framing::Sealed) -> Sealed
-    ensures { result ≡ sealed_of (wrote s) }
-{
-    match s {
-        framing::Sealed::Total(n, k) => Sealed {
-            what: DONE,
-            number: 0,
-            len: n,
-            seqn: k.seqn,
-            bytes: k.bytes,
-        },
-        framing::Sealed::Refused(number) => Sealed {
-            what: REFUSED,
-            number,
-            len: 0,
-            seqn: 0,
-            bytes: 0,
-        },
+    #[tactic(auto, unfolding(crate::specs::Frames::sealed_of))]
+    fn from(r: Result<framing::Sealed, Cause>) -> Sealed {
+        match r {
+            Ok(s) => Sealed {
+                what: DONE,
+                len: s.total,
+                seqn: s.counters.seqn,
+                bytes: s.counters.bytes,
+                ..Sealed::default()
+            },
+            Err(cause) => Sealed {
+                what: REFUSED,
+                number: cause.number(),
+                ..Sealed::default()
+            },
+        }
     }
 }

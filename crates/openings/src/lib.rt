@@ -2,20 +2,20 @@
 #![tactic(auto)]
 
 ghost use Rattle.std.specs.Prelude.{◌≡◌};
-ghost use Rattle.answer.specs.Answer.{refused};
 ghost use Rattle.replies.specs.Answers.{got_confirmation};
 ghost use Rattle.channels.specs.Open.{got_open};
-ghost use Rattle.openings.specs.Openings.{open_of, open_with, tcp_open, text_open, message_of, confirmation_of};
+ghost use Rattle.openings.specs.Openings.{no_place, open_of, tcp_open, text_open, message_of, confirmation_of};
 
 use answer::Refusal;
-use channels::{GotOpen, OpenChannelMessage};
+use channels::OpenChannelMessage;
 use layouts::{ChannelType, TcpChannelInfo};
-use replies::GotConfirmation;
+use replies::ChannelOpenConfirmation;
 use shapes::{DONE, REFUSED};
-use wire::answers::Place;
+use wire::Place;
 
+// Kept: `typ` is a number, as include/harupesat.h counts the types (harupesat_open).
 #[repr(C)]
-#[derive(Clone, Copy)]
+#[derive(Clone, Copy, Debug, Default, PartialEq, Eq)]
 pub struct Open {
     pub what: u8,
     pub number: u8,
@@ -35,7 +35,7 @@ pub struct Open {
 }
 
 #[repr(C)]
-#[derive(Clone, Copy)]
+#[derive(Clone, Copy, Debug, Default, PartialEq, Eq)]
 pub struct Confirmation {
     pub what: u8,
     pub number: u8,
@@ -46,141 +46,113 @@ pub struct Confirmation {
     pub maximum_packet_size: u32,
 }
 
-const NOWHERE: Place = Place { start: 0, len: 0 };
-
-fn open_with(
-    typ: u8,
-    m: OpenChannelMessage,
-    text: Place,
-    port: u32,
-    originator: Place,
-    originator_port: u32,
-    rest: Place,
-) -> Open
-    ensures { result ≡ open_with typ m text port originator originator_port rest }
+// What every opening has beside its type.
+#[tactic(auto, unfolding(crate::specs::Openings::open_with))]
+fn bare_open(typ: u8, m: OpenChannelMessage) -> Open
+    ensures { result ≡ text_open typ m no_place no_place }
 {
     Open {
         what: DONE,
-        number: 0,
-        offset: 0,
         typ,
         recipient_channel: m.recipient_channel,
         recipient_window_size: m.recipient_window_size,
         recipient_maximum_packet_size: m.recipient_maximum_packet_size,
-        text_start: text.start,
-        text_len: text.len,
-        port,
-        originator_start: originator.start,
-        originator_len: originator.len,
-        originator_port,
-        rest_start: rest.start,
-        rest_len: rest.len,
+        ..Open::default()
     }
 }
 
+// A path, or the name of an unknown type.
+#[tactic(auto, unfolding(crate::specs::Openings::open_with))]
+fn text_open(typ: u8, m: OpenChannelMessage, text: Place) -> Open
+    ensures { result ≡ text_open typ m text no_place }
+{
+    Open {
+        text_start: text.start,
+        text_len: text.len,
+        ..bare_open(typ, m)
+    }
+}
+
+#[tactic(auto, unfolding(crate::specs::Openings::open_with))]
 fn tcp_open(typ: u8, m: OpenChannelMessage, i: TcpChannelInfo) -> Open
     ensures { result ≡ tcp_open typ m i }
 {
     let host = i.host_to_connect;
     let originator = i.originator_address;
-    open_with(
-        typ,
-        m,
-        host,
-        i.port_to_connect,
-        originator,
-        i.originator_port,
-        NOWHERE,
-    )
+    Open {
+        port: i.port_to_connect,
+        originator_start: originator.start,
+        originator_len: originator.len,
+        originator_port: i.originator_port,
+        ..text_open(typ, m, host)
+    }
 }
 
-fn text_open(typ: u8, m: OpenChannelMessage, text: Place, rest: Place) -> Open
-    ensures { result ≡ text_open typ m text rest }
+#[tactic(auto, unfolding(crate::specs::Openings::open_with, crate::specs::Openings::message_of))]
+fn message_of(m: OpenChannelMessage) -> Open
+    ensures { result ≡ message_of m.typ m }
 {
-    open_with(typ, m, text, 0, NOWHERE, 0, rest)
-}
-
-fn message_of(typ: ChannelType, m: OpenChannelMessage) -> Open
-    ensures { result ≡ message_of typ m }
-{
-    match typ {
-        ChannelType::Session => text_open(0, m, NOWHERE, NOWHERE),
+    match m.typ {
+        ChannelType::Session => bare_open(0, m),
         ChannelType::X11 {
             originator_address,
             originator_port,
-        } => open_with(
-            1,
-            m,
-            NOWHERE,
-            0,
-            originator_address,
+        } => Open {
+            originator_start: originator_address.start,
+            originator_len: originator_address.len,
             originator_port,
-            NOWHERE,
-        ),
+            ..bare_open(1, m)
+        },
         ChannelType::DirectTcpip(i) => tcp_open(2, m, i),
-        ChannelType::DirectStreamLocal(i) => text_open(3, m, i.socket_path, NOWHERE),
+        ChannelType::DirectStreamLocal(i) => text_open(3, m, i.socket_path),
         ChannelType::ForwardedTcpIp(i) => tcp_open(4, m, i),
-        ChannelType::ForwardedStreamLocal(i) => text_open(5, m, i.socket_path, NOWHERE),
-        ChannelType::AgentForward => text_open(6, m, NOWHERE, NOWHERE),
-        ChannelType::Unknown { typ: name, rest } => text_open(7, m, name, rest),
+        ChannelType::ForwardedStreamLocal(i) => text_open(5, m, i.socket_path),
+        ChannelType::AgentForward => bare_open(6, m),
+        ChannelType::Unknown { typ: name, rest } => Open {
+            rest_start: rest.start,
+            rest_len: rest.len,
+            ..text_open(7, m, name)
+        },
     }
 }
 
-fn not_opened(r: Refusal) -> Open
-    ensures { result ≡ open_of (refused r) }
-{
-    Open {
-        what: REFUSED,
-        number: r.number,
-        offset: r.offset,
-        typ: 0,
-        recipient_channel: 0,
-        recipient_window_size: 0,
-        recipient_maximum_packet_size: 0,
-        text_start: 0,
-        text_len: 0,
-        port: 0,
-        originator_start: 0,
-        originator_len: 0,
-        originator_port: 0,
-        rest_start: 0,
-        rest_len: 0,
-    }
-}
+impl From<Result<OpenChannelMessage, Refusal>> for Open {
+    ghost from_gives = { λ r o. o ≡ open_of (got_open r) };
 
-pub fn open_of(g: GotOpen) -> Open
-    ensures { result ≡ open_of (got_open g) }
-{
-    match g {
-        GotOpen::Message(m) => {
-            let typ = m.typ;
-            message_of(typ, m)
+    #[tactic(auto, unfolding(crate::specs::Openings::open_of))]
+    fn from(r: Result<OpenChannelMessage, Refusal>) -> Open {
+        match r {
+            Ok(m) => message_of(m),
+            Err(refusal) => Open {
+                what: REFUSED,
+                number: refusal.cause.number(),
+                offset: refusal.offset,
+                ..Open::default()
+            },
         }
-        GotOpen::Refused(r) => not_opened(r),
     }
 }
 
-pub fn confirmation_of(g: GotConfirmation) -> Confirmation
-    ensures { result ≡ confirmation_of (got_confirmation g) }
-{
-    match g {
-        GotConfirmation::Confirmed(m) => Confirmation {
-            what: DONE,
-            number: 0,
-            offset: 0,
-            recipient_channel: m.recipient_channel,
-            sender_channel: m.sender_channel,
-            initial_window_size: m.initial_window_size,
-            maximum_packet_size: m.maximum_packet_size,
-        },
-        GotConfirmation::Refused(r) => Confirmation {
-            what: REFUSED,
-            number: r.number,
-            offset: r.offset,
-            recipient_channel: 0,
-            sender_channel: 0,
-            initial_window_size: 0,
-            maximum_packet_size: 0,
-        },
+impl From<Result<ChannelOpenConfirmation, Refusal>> for Confirmation {
+    ghost from_gives = { λ r o. o ≡ confirmation_of (got_confirmation r) };
+
+    #[tactic(auto, unfolding(crate::specs::Openings::confirmation_of))]
+    fn from(r: Result<ChannelOpenConfirmation, Refusal>) -> Confirmation {
+        match r {
+            Ok(m) => Confirmation {
+                what: DONE,
+                recipient_channel: m.recipient_channel,
+                sender_channel: m.sender_channel,
+                initial_window_size: m.initial_window_size,
+                maximum_packet_size: m.maximum_packet_size,
+                ..Confirmation::default()
+            },
+            Err(refusal) => Confirmation {
+                what: REFUSED,
+                number: refusal.cause.number(),
+                offset: refusal.offset,
+                ..Confirmation::default()
+            },
+        }
     }
 }

@@ -7,10 +7,10 @@ ghost use Rattle.put.specs.Written.{put};
 ghost use Rattle.wire.specs.Shown.{shown};
 ghost use Rattle.shapes.specs.Shapes.{written_of, shown_of};
 
-use put::Put;
-use wire::answers::Place;
+use answer::Cause;
+use wire::Place;
 
-// The answers of `what`.
+// The answers of `what`. Kept: numbers, as include/harupesat.h has them (HARUPESAT_REFUSED ..).
 pub const REFUSED: u8 = 0;
 
 pub const DONE: u8 = 1;
@@ -21,7 +21,7 @@ pub const UNKNOWN: u8 = 3;
 
 // What a writer answers: `len` bytes stand at the front of the lent output.
 #[repr(C)]
-#[derive(Clone, Copy)]
+#[derive(Clone, Copy, Debug, Default, PartialEq, Eq)]
 pub struct Written {
     pub what: u8,
     pub number: u8,
@@ -29,7 +29,7 @@ pub struct Written {
 }
 
 #[repr(C)]
-#[derive(Clone, Copy)]
+#[derive(Clone, Copy, Debug, Default, PartialEq, Eq)]
 pub struct Shown {
     pub what: u8,
     pub number: u8,
@@ -38,42 +38,40 @@ pub struct Shown {
     pub len: usize,
 }
 
-pub fn written_of(p: Put) -> Written
-    ensures { result ≡ written_of (put p) }
-{
-    match p {
-        Put::Next(n) => Written {
-            what: DONE,
-            number: 0,
-            len: n,
-        },
-        Put::Refused(number) => Written {
-            what: REFUSED,
-            number,
-            len: 0,
-        },
+impl From<Result<usize, Cause>> for Written {
+    ghost from_gives = { λ r w. w ≡ written_of (put r) };
+
+    #[tactic(auto, unfolding(crate::specs::Shapes::written_of))]
+    fn from(r: Result<usize, Cause>) -> Written {
+        match r {
+            Ok(len) => Written {
+                what: DONE,
+                len,
+                ..Written::default()
+            },
+            Err(cause) => Written {
+                what: REFUSED,
+                number: cause.number(),
+                ..Written::default()
+            },
+        }
     }
 }
 
 pub fn judge_place(s: &[u8], p: Place) -> Shown
     ensures { result ≡ shown_of p (shown s.now p) }
 {
-    let mut no = 0;
-    wire::show::show(s, p, &mut no);
-    if no == 0 {
-        return Shown {
+    match p.show(s) {
+        Ok(_) => Shown {
             what: DONE,
-            number: 0,
-            offset: 0,
             start: p.start,
             len: p.len,
-        };
-    }
-    Shown {
-        what: REFUSED,
-        number: no,
-        offset: 0,
-        start: 0,
-        len: 0,
+            ..Shown::default()
+        },
+        Err(cause) => Shown {
+            what: REFUSED,
+            number: cause.number(),
+            ..Shown::default()
+        },
     }
 }

@@ -1,8 +1,8 @@
-use Rattle.shapes.proofs.PlaceLaws.{shown_laws, shown_inside}
+use Rattle.shapes.proofs.PlaceLaws.{shown_laws}
 use Rattle.shapes.proofs.judge_place.Goals as goal
 
-pub returns-then-no-eq0 : goal.returns-then-no-eq0
-returns-then-no-eq0 c = shown_inside _ _ _ c.show.ensures.number c.if-no-eq0.true
+pub returns-in-Ok : goal.returns-in-Ok
+returns-in-Ok c = search (shown_laws, c.in-Ok.ensures.part)
 
-pub returns : goal.returns
-returns c = search shown_laws
+pub returns-in-Err : goal.returns-in-Err
+returns-in-Err c = search (shown_laws, c.in-Err.ensures.part)
