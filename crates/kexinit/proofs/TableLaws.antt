@@ -16,11 +16,8 @@ use Rattle.names.proofs.RowLaws.{entry_in}
 use Rattle.choice.specs.Rows.{row_spelled, spelled_rows}
 use Rattle.lists.specs.Lists.{names_by, list_by}
 use Rattle.lists.specs.Texts.{texts, length_by}
-use Rattle.filters.specs.Made.{row_list, shown}
-use Rattle.preferred.proofs.HandedLaws.{handed_rows}
 use Rattle.negotiation.specs.KexInit.{text_field, list_field}
 use Rattle.negotiation.proofs.FewLaws.{is_row, Few}
-use Rattle.kexinit.specs.Pieces.{list_of}
 
 -- the texts that are measured are the names
 pub texts_rows : (rs : List ℕ) → every is_row rs ≡ true → texts (name_at all_names) rs ≡ spelled_rows rs
@@ -39,10 +36,10 @@ names_rows (r ∷ rs) h =
 
 module _ (rs : List ℕ) (few : Few rs) where
   -- a list that is handed over: what is put of it, and its length
-  pub list_handed : list_of (name_at all_names) (row_list rs) ≡ done (list_field (spelled_rows rs))
+  pub list_handed : list_by (name_at all_names) rs ≡ done (list_field (spelled_rows rs))
   unfolding list_by text_field ◌>>=◌
   list_handed =
-      rw (handed_rows rs, names_rows rs few.in_table) (string_short (join (spelled_rows rs)) (omega (arith, few.bytes)))
+      rw (names_rows rs few.in_table) (string_short (join (spelled_rows rs)) (omega (arith, few.bytes)))
 
-  pub length_handed : length_by (name_at all_names) (shown (row_list rs)) ≡ length (join (spelled_rows rs))
-  length_handed = rw (handed_rows rs, texts_rows rs few.in_table) (omega (arith, few.bytes))
+  pub length_handed : length_by (name_at all_names) rs ≡ length (join (spelled_rows rs))
+  length_handed = rw (texts_rows rs few.in_table) (omega (arith, few.bytes))

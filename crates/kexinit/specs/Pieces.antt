@@ -6,7 +6,6 @@ use Rattle.put.specs.Written.{word}
 use Rattle.put.specs.Runs.{ended, filled}
 use Rattle.lists.specs.Lists.{list_by}
 use Rattle.lists.specs.Texts.{length_by}
-use Rattle.filters.specs.declared.RowList.{RowList}
 use Rattle.preferred.specs.declared.Own.{Own}
 use Rattle.filters.specs.Made.{shown}
 
@@ -15,23 +14,20 @@ unfoldable pub ending : List (Out (List ℕ))
 ending = done (word 0) ∷ done (word 0) ∷ done (0 ∷ []) ∷ done (word 0) ∷ []
 
 module _ (name : ℕ → Out (List ℕ)) where
-  abbrev pub list_of : RowList → Out (List ℕ)
-  list_of l = list_by name (shown l)
+  unfoldable pub once : List ℕ → List (Out (List ℕ))
+  once rows = list_by name rows ∷ []
 
-  unfoldable pub once : RowList → List (Out (List ℕ))
-  once l = list_of l ∷ []
-
-  unfoldable pub twice : RowList → List (Out (List ℕ))
-  twice l = once l ++ once l
+  unfoldable pub twice : List ℕ → List (Out (List ℕ))
+  twice rows = once rows ++ once rows
 
   -- 20, cookie, kex, key
-  unfoldable pub head : RowList → RowList → List ℕ → List (Out (List ℕ))
-  head kex key cookie = done (20 ∷ []) ∷ done cookie ∷ (once kex ++ once key)
+  unfoldable pub head : Own → List ℕ → List (Out (List ℕ))
+  head own cookie = done (20 ∷ []) ∷ done cookie ∷ (once (shown own.kex_written) ++ once (shown own.key))
 
   unfoldable pub pieces : Own → List ℕ → List (Out (List ℕ))
   pieces own cookie =
-      head own.kex_written own.key cookie
-      ++ (twice own.cipher ++ (twice own.mac ++ (twice own.compression ++ ending)))
+      head own cookie
+      ++ (twice (shown own.cipher) ++ (twice (shown own.mac) ++ (twice (shown own.compression) ++ ending)))
 
   -- all but the names: 20, cookie, ten lengths, byte, uint32
   unfoldable pub size : Own → ℕ

@@ -6,21 +6,21 @@
 
 ghost use Rattle.std.specs.Prelude.{◌≡◌};
 ghost use Rattle.put.specs.Written.{written, buffer, put};
-ghost use Rattle.put.specs.Runs.{ended, filled};
-ghost use Rattle.names.specs.Spelled.{row_name};
-ghost use Rattle.lists.specs.Texts.{length_by};
+ghost use Rattle.put.proofs.RunLaws.{Ran};
+ghost use Rattle.names.specs.Spelled.{spelled_by};
+ghost use Rattle.judging.specs.Tables.{lent};
 ghost use Rattle.filters.specs.Made.{shown};
 ghost use Rattle.negotiation.specs.Written.{write_kex};
 ghost use Rattle.kexinit.specs.Pieces.{once, head, twice, ending, pieces, size, answered, left};
 
-use answer::{BAD_TABLE, NO_ROOM};
-use choice::Side;
+use answer::Cause;
 use filters::RowList;
+use judging::Tables;
 use lists::{put_rows, rows_length};
-use names::tables;
+use names::Columns;
+use names::tables::columns;
 use preferred::{Own, own_lists};
-use put::{Put, after, put_bytes, put_u8, put_u32};
-use text::front;
+use put::{after, put_bytes, put_u8, put_u32};
 
 // msg::KEXINIT
 const KEXINIT: u8 = 20;
@@ -30,81 +30,76 @@ const COOKIE: usize = 16;
 // All but the names: the message number, the cookie, ten lengths, the byte and the uint32 at the end.
 const FIXED: usize = 62;
 
-fn length_of(spellings: &[u8], starts: &[u16], lengths: &[u8], list: RowList) -> usize
-    ensures { result ≡ length_by (row_name spellings.now starts.now lengths.now) (shown list) }
-{
-    let rows = list.rows;
-    let len = list.len;
-    rows_length(spellings, starts, lengths, front(&rows, len))
+// What a KEXINIT is put together from.
+#[derive(Clone, Copy)]
+struct Pieces<'a> {
+    names: Columns<'a>,
+    own: &'a Own,
+    cookie: &'a [u8],
 }
 
-fn size(spellings: &[u8], starts: &[u16], lengths: &[u8], own: Own) -> usize
-    ensures { result ≡ size (row_name spellings.now starts.now lengths.now) own }
-{
-    let kex = length_of(spellings, starts, lengths, own.kex_written);
-    let key = length_of(spellings, starts, lengths, own.key);
-    let cipher = length_of(spellings, starts, lengths, own.cipher);
-    let mac = length_of(spellings, starts, lengths, own.mac);
-    let compression = length_of(spellings, starts, lengths, own.compression);
-    FIXED + (kex + key) + 2 * (cipher + mac + compression)
-}
+impl Pieces<'_> {
+    #[tactic(auto, unfolding(crate::specs::Pieces::size))]
+    fn size(&self) -> usize
+        ensures { result ≡ size (spelled_by self.now.names) self.now.own.now }
+    {
+        let own = self.own;
+        let kex = rows_length(&self.names, &own.kex_written);
+        let key = rows_length(&self.names, &own.key);
+        let cipher = rows_length(&self.names, &own.cipher);
+        let mac = rows_length(&self.names, &own.mac);
+        let compression = rows_length(&self.names, &own.compression);
+        FIXED + (kex + key) + 2 * (cipher + mac + compression)
+    }
 
-fn put_list(
-    spellings: &[u8],
-    starts: &[u16],
-    lengths: &[u8],
-    list: RowList,
-    out: &mut [u8],
-    at: usize,
-) -> usize
-    ensures next { result ≡ ended out.old at (once (row_name spellings.now starts.now lengths.now) list) }
-    ensures bytes { out.new ≡ filled out.old at (once (row_name spellings.now starts.now lengths.now) list) }
-{
-    let rows = list.rows;
-    let len = list.len;
-    after(
-        put_rows(spellings, starts, lengths, front(&rows, len), out, at),
-        at,
-    )
-}
+    fn put_list(&self, list: &RowList, out: &mut [u8], at: usize) -> usize
+        ensures { Ran out.old at (once (spelled_by self.now.names) (shown list.now)) result out.new }
+    {
+        after(put_rows(&self.names, list, out, at), at)
+    }
 
-fn put_head(
-    spellings: &[u8],
-    starts: &[u16],
-    lengths: &[u8],
-    kex: RowList,
-    key: RowList,
-    cookie: &[u8],
-    out: &mut [u8],
-) -> usize
-    ensures next { result ≡ ended out.old 0 (head (row_name spellings.now starts.now lengths.now) kex key cookie.now) }
-    ensures bytes { out.new ≡ filled out.old 0 (head (row_name spellings.now starts.now lengths.now) kex key cookie.now) }
-{
-    let p = after(put_u8(out, 0, KEXINIT), 0);
-    let q = after(put_bytes(out, p, cookie), p);
-    let s = put_list(spellings, starts, lengths, kex, out, q);
-    put_list(spellings, starts, lengths, key, out, s)
-}
+    fn put_head(&self, out: &mut [u8]) -> usize
+        ensures { Ran out.old 0 (head (spelled_by self.now.names) self.now.own.now self.now.cookie.now) result out.new }
+    {
+        let p = after(put_u8(out, 0, KEXINIT), 0);
+        let q = after(put_bytes(out, p, self.cookie), p);
+        let s = self.put_list(&self.own.kex_written, out, q);
+        self.put_list(&self.own.key, out, s)
+    }
 
-// Client to server and server to client.
-fn put_twice(
-    spellings: &[u8],
-    starts: &[u16],
-    lengths: &[u8],
-    list: RowList,
-    out: &mut [u8],
-    at: usize,
-) -> usize
-    ensures next { result ≡ ended out.old at (twice (row_name spellings.now starts.now lengths.now) list) }
-    ensures bytes { out.new ≡ filled out.old at (twice (row_name spellings.now starts.now lengths.now) list) }
-{
-    let p = put_list(spellings, starts, lengths, list, out, at);
-    put_list(spellings, starts, lengths, list, out, p)
+    // Client to server and server to client.
+    fn put_twice(&self, list: &RowList, out: &mut [u8], at: usize) -> usize
+        ensures { Ran out.old at (twice (spelled_by self.now.names) (shown list.now)) result out.new }
+    {
+        let p = self.put_list(list, out, at);
+        self.put_list(list, out, p)
+    }
+
+    fn put(&self, out: &mut [u8]) -> usize
+        ensures { Ran out.old 0 (pieces (spelled_by self.now.names) self.now.own.now self.now.cookie.now) result out.new }
+    {
+        let p = self.put_head(out);
+        let q = self.put_twice(&self.own.cipher, out, p);
+        let s = self.put_twice(&self.own.mac, out, q);
+        let e = self.put_twice(&self.own.compression, out, s);
+        put_ending(out, e)
+    }
+
+    // The room is tested for the whole, so that a refusal changes nothing and no put refuses.
+    #[tactic(auto, using(crate::proofs::RoomLaws::own_laws))]
+    fn write(&self, out: &mut [u8]) -> Result<usize, Cause>
+        ensures answer { put result ≡ answered (spelled_by self.now.names) out.old self.now.own.now self.now.cookie.now }
+        ensures bytes { out.new ≡ left (spelled_by self.now.names) out.old self.now.own.now self.now.cookie.now }
+    {
+        if out.len() < self.size() {
+            return Err(Cause::NoRoom);
+        }
+        Ok(self.put(out))
+    }
 }
 
 fn put_ending(out: &mut [u8], at: usize) -> usize
-    ensures next { result ≡ ended out.old at ending }
-    ensures bytes { out.new ≡ filled out.old at ending }
+    ensures { Ran out.old at ending result out.new }
 {
     let p = after(put_u32(out, at, 0), at);
     let q = after(put_u32(out, p, 0), p);
@@ -112,115 +107,20 @@ fn put_ending(out: &mut [u8], at: usize) -> usize
     after(put_u32(out, s, 0), s)
 }
 
-fn put_pieces(
-    spellings: &[u8],
-    starts: &[u16],
-    lengths: &[u8],
-    own: Own,
-    cookie: &[u8],
-    out: &mut [u8],
-) -> usize
-    ensures next { result ≡ ended out.old 0 (pieces (row_name spellings.now starts.now lengths.now) own cookie.now) }
-    ensures bytes { out.new ≡ filled out.old 0 (pieces (row_name spellings.now starts.now lengths.now) own cookie.now) }
-{
-    let kex = own.kex_written;
-    let key = own.key;
-    let cipher = own.cipher;
-    let mac = own.mac;
-    let compression = own.compression;
-    let p = put_head(spellings, starts, lengths, kex, key, cookie, out);
-    let q = put_twice(spellings, starts, lengths, cipher, out, p);
-    let s = put_twice(spellings, starts, lengths, mac, out, q);
-    let e = put_twice(spellings, starts, lengths, compression, out, s);
-    put_ending(out, e)
-}
-
-// The room is tested for the whole, so that a refusal changes nothing and no put refuses.
-fn put_own(
-    spellings: &[u8],
-    starts: &[u16],
-    lengths: &[u8],
-    own: Own,
-    cookie: &[u8],
-    out: &mut [u8],
-) -> Put
-    ensures answer { put result ≡ answered (row_name spellings.now starts.now lengths.now) out.old own cookie.now }
-    ensures bytes { out.new ≡ left (row_name spellings.now starts.now lengths.now) out.old own cookie.now }
-{
-    if out.len() < size(spellings, starts, lengths, own) {
-        return Put::Refused(NO_ROOM);
-    }
-    Put::Next(put_pieces(spellings, starts, lengths, own, cookie, out))
-}
-
 // The cookie is lent, since random bytes are the caller's.
-pub fn write_kex(
-    side: Side,
-    kex: &[u8],
-    key: &[u8],
-    certificate: &[u8],
-    cipher: &[u8],
-    mac: &[u8],
-    compression: &[u8],
-    key_kinds: &[u8],
-    key_ids: &[u32],
-    cert_kinds: &[u8],
-    cert_ids: &[u32],
-    cookie: &[u8],
-    out: &mut [u8],
-) -> Put
-    ensures answer { put result ≡ written out.old 0 (write_kex (record {
-      side = side;
-      kex = kex.now;
-      key = key.now;
-      certificate = certificate.now;
-      cipher = cipher.now;
-      mac = mac.now;
-      compression = compression.now;
-      key_kinds = key_kinds.now;
-      key_ids = key_ids.now;
-      cert_kinds = cert_kinds.now;
-      cert_ids = cert_ids.now;
-    }) cookie.now) }
-    ensures bytes { out.new ≡ buffer out.old 0 (write_kex (record {
-      side = side;
-      kex = kex.now;
-      key = key.now;
-      certificate = certificate.now;
-      cipher = cipher.now;
-      mac = mac.now;
-      compression = compression.now;
-      key_kinds = key_kinds.now;
-      key_ids = key_ids.now;
-      cert_kinds = cert_kinds.now;
-      cert_ids = cert_ids.now;
-    }) cookie.now) }
+pub fn write_kex(tables: &Tables, cookie: &[u8], out: &mut [u8]) -> Result<usize, Cause>
+    ensures answer { put result ≡ written out.old 0 (write_kex (lent tables.now) cookie.now) }
+    ensures bytes { out.new ≡ buffer out.old 0 (write_kex (lent tables.now) cookie.now) }
 {
-    let lists = own_lists(
-        side,
-        kex,
-        key,
-        certificate,
-        cipher,
-        mac,
-        compression,
-        key_kinds,
-        key_ids,
-        cert_kinds,
-        cert_ids,
-    );
-    if lists.number != 0 {
-        return Put::Refused(lists.number);
-    }
+    let own = own_lists(tables)?;
     if cookie.len() != COOKIE {
-        return Put::Refused(BAD_TABLE);
+        return Err(Cause::BadTable);
     }
-    put_own(
-        &tables::SPELLINGS,
-        &tables::STARTS,
-        &tables::LENGTHS,
-        lists,
+    let names = columns();
+    let whole = Pieces {
+        names,
+        own: &own,
         cookie,
-        out,
-    )
+    };
+    whole.write(out)
 }

@@ -1,11 +1,10 @@
--- `kexinit::write_kex`: the constants compute to the columns of the definition's names. Assumes nothing.
-use Rattle.names.specs.Tables.{all_names, kex_names, key_names, certificate_names, cipher_names, mac_names, compression_names}
+-- `kexinit::write_kex`: what is refused before anything is put, and the whole. Assumes nothing.
 use Rattle.kexinit.proofs.KexLaws.{kex_tables, kex_cookie, kex_put}
 use Rattle.kexinit.proofs.write_kex.Goals as goal
 
-pub returns-then-lists-ne0 : goal.returns-then-lists-ne0
-returns-then-lists-ne0 c =
-    let both = kex_tables _ _ _ _ c.own_lists-lists.ensures c.if-lists-ne0.true in
+pub returns-in_err-own : goal.returns-in_err-own
+returns-in_err-own c =
+    let both = kex_tables _ _ _ _ _ c.in_err-own.ensures c.from_residual.ensures in
     record { answer = both.0; bytes = both.1 }
 
 pub returns-then-cookie-ne-COOKIE : goal.returns-then-cookie-ne-COOKIE
@@ -14,8 +13,7 @@ returns-then-cookie-ne-COOKIE c =
     record { answer = both.0; bytes = both.1 }
 
 pub returns : goal.returns
-unfolding all_names kex_names key_names certificate_names cipher_names mac_names compression_names
 returns c =
-    let both = kex_put _ _ _ _ c.own_lists-lists.ensures c.if-lists-ne0.false c.if-cookie-ne-COOKIE.false _ _
-    (c.put_own.ensures.answer, c.put_own.ensures.bytes) in
+    let both = kex_put _ _ _ _ c.in_ok-own.ensures c.if-cookie-ne-COOKIE.false _ c.columns-names.ensures _ _
+    (c.write.ensures.answer, c.write.ensures.bytes) in
     record { answer = both.0; bytes = both.1 }
