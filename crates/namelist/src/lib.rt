@@ -57,10 +57,8 @@ fn judge(list: &[u8]) -> Result<(), Cause>
     ensures { answered result ≡ judged_list list.now }
 {
     let high = text::highest(list);
-    if high < 128 {
-        return judge_names(list, high);
-    }
-    if text::utf8(list) {
+    // Where all is ASCII, all is UTF-8.
+    if high < 128 || text::utf8(list) {
         return judge_names(list, high);
     }
     Err(Cause::NotUtf8)
