@@ -1,24 +1,13 @@
--- A kind of names by its number, as include/harupesat.h counts them; any other number is "outside its table": 9.
-use Rattle.std.specs.Prelude.{List, [], ℕ, eqb}
+-- What names and default lists are by the number of a kind (crates/names/specs/Numbered.antt).
+use Rattle.std.specs.Prelude.{List, [], ℕ}
 use Rattle.std.proofs.Math.Option.{Option}
-use Rattle.answer.specs.Answer.{Out, refuse, done, pick, ◌>>=◌}
+use Rattle.answer.specs.Answer.{Out, done, ◌>>=◌}
+use Rattle.names.specs.Numbered.{kind_of}
 use Rattle.names.specs.Spelled.{spelled}
 use Rattle.names.specs.Lookup.{number_of}
 use Rattle.names.specs.declared.Kind.{Kind}
 use Rattle.names.specs.declared.Kind.TheVariants.{Kex, Key, Certificate, Cipher, Mac, Compression}
 use Rattle.preferred.specs.Defaults.{default_kex, default_key, default_cipher, default_mac, default_compression}
-use Rattle.kinds.specs.declared.GotKind.{GotKind}
-use Rattle.kinds.specs.declared.GotKind.TheVariants.{Of, Refused}
-
-unfoldable pub kind_of : ℕ → Out Kind
-kind_of n =
-    pick (eqb n 0) (done Kex)
-    (pick (eqb n 1) (done Key)
-    (pick (eqb n 2) (done Certificate)
-    (pick (eqb n 3) (done Cipher)
-    (pick (eqb n 4) (done Mac)
-    (pick (eqb n 5) (done Compression)
-    (refuse 9))))))
 
 -- the name of a number of a kind
 abbrev pub name_of : ℕ → ℕ → Out (List ℕ)
@@ -45,8 +34,3 @@ abbrev pub default_list : ℕ → Out (List ℕ)
 default_list kind = do
   k ← kind_of kind
   done (default_of k)
-
--- what a `GotKind` means
-abbrev pub got_kind : GotKind → Out Kind
-got_kind (Of k) = done k
-got_kind (Refused n) = refuse n

@@ -3,21 +3,18 @@
 #![tactic(auto)]
 
 ghost use Rattle.std.specs.Prelude.{◌≡◌};
-ghost use Rattle.answer.specs.Answer.{done};
 ghost use Rattle.put.specs.Written.{written, buffer, put};
-ghost use Rattle.names.specs.Lookup.{found};
-ghost use Rattle.names.specs.Spelled.{flag};
-ghost use Rattle.kinds.specs.Kinds.{kind_of, name_of, named_of, default_list, default_of, got_kind};
-ghost use Rattle.kinds.specs.Numbers.{found_of, numbered, truth_of};
+ghost use Rattle.kinds.specs.Kinds.{name_of, named_of, default_list, default_of};
+ghost use Rattle.kinds.specs.Numbers.{numbered, IsFound, IsTruth};
 
-use answer::BAD_TABLE;
-use names::{Flag, Found, Kind};
+use answer::Cause;
+use names::Kind;
 use preferred::defaults;
-use put::Put;
 use shapes::{DONE, REFUSED, UNKNOWN};
 
+// Kept: `Number` and `Truth` of include/harupesat.h, field by field.
 #[repr(C)]
-#[derive(Clone, Copy)]
+#[derive(Clone, Copy, Debug, Default, PartialEq, Eq)]
 pub struct Number {
     pub what: u8,
     pub number: u8,
@@ -25,122 +22,97 @@ pub struct Number {
 }
 
 #[repr(C)]
-#[derive(Clone, Copy)]
+#[derive(Clone, Copy, Debug, Default, PartialEq, Eq)]
 pub struct Truth {
     pub what: u8,
     pub number: u8,
     pub value: bool,
 }
 
-#[derive(Clone, Copy)]
-pub enum GotKind {
-    Of(Kind),
-    Refused(u8),
+// What a look-up found.
+impl From<Option<u8>> for Number {
+    ghost from_gives = { IsFound };
+
+    #[tactic(auto, unfolding(crate::specs::Numbers::found_of))]
+    fn from(found: Option<u8>) -> Number {
+        match found {
+            Some(value) => Number {
+                what: DONE,
+                value,
+                ..Number::default()
+            },
+            None => Number {
+                what: UNKNOWN,
+                ..Number::default()
+            },
+        }
+    }
 }
 
-fn kind_of(n: u8) -> GotKind
-    ensures { got_kind result ≡ kind_of n }
-{
-    if n == 0 {
-        return GotKind::Of(Kind::Kex);
+// What a column of the ciphers says.
+impl From<Result<bool, Cause>> for Truth {
+    ghost from_gives = { IsTruth };
+
+    #[tactic(auto, unfolding(crate::specs::Numbers::truth_of))]
+    fn from(flag: Result<bool, Cause>) -> Truth {
+        match flag {
+            Ok(value) => Truth {
+                what: DONE,
+                value,
+                ..Truth::default()
+            },
+            Err(cause) => Truth {
+                what: REFUSED,
+                number: cause.number(),
+                ..Truth::default()
+            },
+        }
     }
-    if n == 1 {
-        return GotKind::Of(Kind::Key);
-    }
-    if n == 2 {
-        return GotKind::Of(Kind::Certificate);
-    }
-    if n == 3 {
-        return GotKind::Of(Kind::Cipher);
-    }
-    if n == 4 {
-        return GotKind::Of(Kind::Mac);
-    }
-    if n == 5 {
-        return GotKind::Of(Kind::Compression);
-    }
-    GotKind::Refused(BAD_TABLE)
 }
 
 // The name of a number of a kind.
-pub fn spell(kind: u8, number: u8, out: &mut [u8]) -> Put
+pub fn spell(kind: u8, number: u8, out: &mut [u8]) -> Result<usize, Cause>
     ensures answer { put result ≡ written out.old 0 (name_of kind number) }
     ensures bytes { out.new ≡ buffer out.old 0 (name_of kind number) }
 {
-    match kind_of(kind) {
-        GotKind::Of(k) => names::put_name(k, number, out, 0),
-        GotKind::Refused(n) => Put::Refused(n),
-    }
-}
-
-fn found_of(f: Found) -> Number
-    ensures { result ≡ found_of (found f) }
-{
-    match f {
-        Found::Number(value) => Number {
-            what: DONE,
-            number: 0,
-            value,
-        },
-        Found::Unknown => Number {
-            what: UNKNOWN,
-            number: 0,
-            value: 0,
-        },
-    }
+    let of = Kind::try_from(kind)?;
+    names::put_name(of, number, out, 0)
 }
 
 // The number of a name of a kind.
 pub fn number_of(kind: u8, name: &[u8]) -> Number
     ensures { result ≡ numbered (named_of kind name.now) }
 {
-    match kind_of(kind) {
-        GotKind::Of(k) => found_of(names::lookup(k, name)),
-        GotKind::Refused(number) => Number {
+    match Kind::try_from(kind) {
+        Ok(of) => names::lookup(of, name).into(),
+        Err(cause) => Number {
             what: REFUSED,
-            number,
-            value: 0,
+            number: cause.number(),
+            ..Number::default()
         },
     }
 }
 
-pub fn truth_of(f: Flag) -> Truth
-    ensures { result ≡ truth_of (flag f) }
-{
-    match f {
-        Flag::Is(value) => Truth {
-            what: DONE,
-            number: 0,
-            value,
-        },
-        Flag::Refused(number) => Truth {
-            what: REFUSED,
-            number,
-            value: false,
-        },
-    }
-}
-
-fn put_default(kind: Kind, out: &mut [u8]) -> Put
-    ensures answer { put result ≡ written out.old 0 (done (default_of kind)) }
-    ensures bytes { out.new ≡ buffer out.old 0 (done (default_of kind)) }
+// The default numbers of a kind; no client certificates, which are the caller's decision.
+#[tactic(auto, unfolding(crate::specs::Kinds::default_of))]
+fn default_of<'a>(kind: Kind) -> &'a [u8]
+    ensures { result.now ≡ default_of kind }
 {
     match kind {
-        Kind::Kex => put::put_bytes(out, 0, &defaults::KEX),
-        Kind::Key => put::put_bytes(out, 0, &defaults::KEY),
-        Kind::Certificate => put::put_bytes(out, 0, &defaults::KEX[..0]),
-        Kind::Cipher => put::put_bytes(out, 0, &defaults::CIPHER),
-        Kind::Mac => put::put_bytes(out, 0, &defaults::MAC),
-        Kind::Compression => put::put_bytes(out, 0, &defaults::COMPRESSION),
+        Kind::Kex => &defaults::KEX,
+        Kind::Key => &defaults::KEY,
+        Kind::Certificate => &[],
+        Kind::Cipher => &defaults::CIPHER,
+        Kind::Mac => &defaults::MAC,
+        Kind::Compression => &defaults::COMPRESSION,
     }
 }
 
-pub fn default_list(kind: u8, out: &mut [u8]) -> Put
+// The default list of a kind.
+pub fn default_list(kind: u8, out: &mut [u8]) -> Result<usize, Cause>
     ensures answer { put result ≡ written out.old 0 (default_list kind) }
     ensures bytes { out.new ≡ buffer out.old 0 (default_list kind) }
 {
-    match kind_of(kind) {
-        GotKind::Of(k) => put_default(k, out),
-        GotKind::Refused(n) => Put::Refused(n),
-    }
+    let of = Kind::try_from(kind)?;
+    put::put_bytes(out, 0, default_of(of))
 }

@@ -1,9 +1,11 @@
 -- What a side settles on, as a struct (crates/shapes/specs/Shapes.antt), and a side, which crosses as a flag.
-use Rattle.std.specs.Prelude.{Bool, true, false}
+use Rattle.std.specs.Prelude.{Bool, true, false, ◌≡◌, Result}
+use Rattle.answer.specs.declared.Refusal.{Refusal as Answered}
 use Rattle.answer.specs.Answer.{Out, refused, done}
 use Rattle.choice.specs.declared.Side.{Side}
 use Rattle.choice.specs.declared.Side.TheVariants.{Client, Server}
 use Rattle.negotiation.specs.declared.Names.{Names}
+use Rattle.negotiation.specs.Read.{got_names}
 use Rattle.settles.specs.declared.Settled.{Settled}
 
 unfoldable pub settled_of : Out Names → Settled
@@ -39,6 +41,10 @@ settled_of (done n) =
       ignore_guessed = n.flags.ignore_guessed;
       strict_kex = n.flags.strict_kex;
     }
+
+-- what the code's answer is made
+abbrev pub IsSettled : Result Names Answered → Settled → Type 0
+IsSettled r w = w ≡ settled_of (got_names r)
 
 -- the side that a flag says
 abbrev pub side_of : Bool → Side

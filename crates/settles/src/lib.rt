@@ -2,15 +2,16 @@
 #![tactic(auto)]
 
 ghost use Rattle.std.specs.Prelude.{◌≡◌};
-ghost use Rattle.negotiation.specs.Read.{got_names};
-ghost use Rattle.settles.specs.Settles.{settled_of, side_of};
+ghost use Rattle.settles.specs.Settles.{IsSettled, side_of};
 
+use answer::Refusal;
 use choice::Side;
-use negotiation::GotNames;
+use negotiation::Names;
 use shapes::{DONE, REFUSED};
 
+// Kept: `Settled` of include/harupesat.h, field by field.
 #[repr(C)]
-#[derive(Clone, Copy)]
+#[derive(Clone, Copy, Debug, Default, PartialEq, Eq)]
 pub struct Settled {
     pub what: u8,
     pub number: u8,
@@ -27,43 +28,39 @@ pub struct Settled {
     pub strict_kex: bool,
 }
 
-pub fn settled_of(g: GotNames) -> Settled
-    ensures { result ≡ settled_of (got_names g) }
-{
-    match g {
-        GotNames::Settled(n) => Settled {
-            what: DONE,
-            number: 0,
-            offset: 0,
-            kex: n.kex.0,
-            key: n.key.0,
-            cipher: n.cipher.0,
-            client_mac: n.client_mac.0,
-            server_mac: n.server_mac.0,
-            client_compression: n.client_compression.0,
-            server_compression: n.server_compression.0,
-            host_key_is_certificate: n.flags.host_key_is_certificate,
-            ignore_guessed: n.flags.ignore_guessed,
-            strict_kex: n.flags.strict_kex,
-        },
-        GotNames::Refused(r) => Settled {
-            what: REFUSED,
-            number: r.number,
-            offset: r.offset,
-            kex: 0,
-            key: 0,
-            cipher: 0,
-            client_mac: 0,
-            server_mac: 0,
-            client_compression: 0,
-            server_compression: 0,
-            host_key_is_certificate: false,
-            ignore_guessed: false,
-            strict_kex: false,
-        },
+// What a refusal does not say is 0 or false.
+impl From<Result<Names, Refusal>> for Settled {
+    ghost from_gives = { IsSettled };
+
+    #[tactic(auto, unfolding(crate::specs::Settles::settled_of))]
+    fn from(r: Result<Names, Refusal>) -> Settled {
+        match r {
+            Ok(names) => Settled {
+                what: DONE,
+                kex: names.kex.0,
+                key: names.key.0,
+                cipher: names.cipher.0,
+                client_mac: names.client_mac.0,
+                server_mac: names.server_mac.0,
+                client_compression: names.client_compression.0,
+                server_compression: names.server_compression.0,
+                host_key_is_certificate: names.flags.host_key_is_certificate,
+                ignore_guessed: names.flags.ignore_guessed,
+                strict_kex: names.flags.strict_kex,
+                ..Settled::default()
+            },
+            Err(refusal) => Settled {
+                what: REFUSED,
+                number: refusal.cause.number(),
+                offset: refusal.offset,
+                ..Settled::default()
+            },
+        }
     }
 }
 
+// The side that a flag says.
+// Kept: a flag of the C interface (harupesat_read_kex); `From<bool>` would not say that true is the server.
 pub fn side_of(server: bool) -> Side
     ensures { result ≡ side_of server }
 {

@@ -1,8 +1,11 @@
-use Rattle.kinds.proofs.KindLaws.{put_laws}
+use Rattle.put.proofs.WriterLaws.{handed_put}
+use Rattle.kinds.proofs.KindLaws.{kind_off, kind_put}
 use Rattle.kinds.proofs.default_list.Goals as goal
 
-pub returns-in-Of : goal.returns-in-Of
-returns-in-Of c = search put_laws
+pub returns-in_err-of : goal.returns-in_err-of
+returns-in_err-of c =
+    let both = handed_put _ _ _ _ _ c.from_residual.ensures (kind_off _ _ _ c.in_err-of.ensures) in record { answer = both.0; bytes = both.1 }
 
-pub returns-in-Refused : goal.returns-in-Refused
-returns-in-Refused c = search put_laws
+pub returns : goal.returns
+returns c =
+    let both = kind_put _ _ _ _ _ _ c.in_ok-of.ensures (rw (← c.default_of.ensures) (c.put_bytes.ensures.answer, c.put_bytes.ensures.bytes)) in record { answer = both.0; bytes = both.1 }
