@@ -10,7 +10,7 @@ use lib.Dec.{ltb}
 use lib.ListN.{length, take, drop, length-drop, length-take, take-append-drop}
 use Rattle.std.specs.Prelude.{Option, Some, None, Result, Ok, Err}
 use Rattle.answer.specs.declared.Cause.{Cause}
-use Rattle.answer.specs.declared.Cause.TheVariants.{PastEnd, NotUtf8}
+use Rattle.answer.specs.declared.Cause.TheVariants.{PastEnd}
 use Rattle.answer.specs.declared.Refusal.{Refusal as Answered}
 use Rattle.answer.specs.Answer.{Out, refused, done, refuse, answered, ◌>>=◌}
 use Rattle.answer.specs.Refusal.{told}
@@ -26,7 +26,7 @@ use Rattle.wire.specs.declared.place.Place.{Place}
 use Rattle.wire.specs.Fields.{At, Run, here, run}
 use Rattle.wire.specs.Walk.{next_name}
 use Rattle.wire.specs.Shown.{part}
-use Rattle.wire.specs.Answers.{next_of, run_at, got_text}
+use Rattle.wire.specs.Answers.{next_of, run_at}
 use Rattle.wire.proofs.RunLaws.{Inside, run_inside, text_bytes, text_order, text_within}
 use Rattle.wire.proofs.WalkLaws.{names_left, name_inside, name_less, none_left}
 use Rattle.namelist.specs.Judged.{judged, judged_list, name_list, standing}
