@@ -9,32 +9,31 @@ ghost use Rattle.openings.specs.Openings.{open_of, confirmation_of};
 
 use channels::OpenChannelMessage;
 pub use openings::{Confirmation, Open};
-use openings::{confirmation_of, open_of};
 use replies::ChannelOpenConfirmation;
-use shapes::{Written, written_of};
+use shapes::Written;
 
 pub fn harupesat_read_open(body: &[u8]) -> Open
     ensures { result ≡ open_of (read_open body.now) }
 {
-    open_of(OpenChannelMessage::parse(body))
+    OpenChannelMessage::parse(body).into()
 }
 
 pub fn harupesat_read_confirmation(body: &[u8]) -> Confirmation
     ensures { result ≡ confirmation_of (read_confirmation body.now) }
 {
-    confirmation_of(ChannelOpenConfirmation::parse(body))
+    ChannelOpenConfirmation::parse(body).into()
 }
 
 pub fn harupesat_fail(recipient: u32, reason: u8, text: &[u8], out: &mut [u8]) -> Written
     ensures answer { result ≡ written_of (written out.old 0 (failure recipient reason text.now)) }
     ensures bytes { out.new ≡ buffer out.old 0 (failure recipient reason text.now) }
 {
-    written_of(replies::fail(recipient, reason, text, out))
+    replies::fail(recipient, reason, text, out).into()
 }
 
 pub fn harupesat_unknown_type(recipient: u32, out: &mut [u8]) -> Written
     ensures answer { result ≡ written_of (written out.old 0 (unknown_type recipient)) }
     ensures bytes { out.new ≡ buffer out.old 0 (unknown_type recipient) }
 {
-    written_of(replies::unknown_type(recipient, out))
+    replies::unknown_type(recipient, out).into()
 }

@@ -1,4 +1,5 @@
 // KEXINIT, written and read.
+// Kept: the ten lists are parameters, since C has no struct of slices (harupesat_write_kex, harupesat_read_kex).
 ghost use Rattle.std.specs.Prelude.{◌≡◌};
 ghost use Rattle.put.specs.Written.{written, buffer};
 ghost use Rattle.judging.specs.Tables.{Tables};
@@ -7,9 +8,10 @@ ghost use Rattle.negotiation.specs.Written.{write_kex};
 ghost use Rattle.shapes.specs.Shapes.{written_of};
 ghost use Rattle.settles.specs.Settles.{settled_of, side_of};
 
+use judging::Tables;
 pub use settles::Settled;
-use settles::{settled_of, side_of};
-use shapes::{Written, written_of};
+use settles::side_of;
+use shapes::Written;
 
 pub fn harupesat_write_kex(
     server: bool,
@@ -57,8 +59,8 @@ pub fn harupesat_write_kex(
         })
         cookie.now) }
 {
-    written_of(kexinit::write_kex(
-        side_of(server),
+    let tables = Tables {
+        side: side_of(server),
         kex,
         key,
         certificate,
@@ -69,9 +71,8 @@ pub fn harupesat_write_kex(
         key_ids,
         cert_kinds,
         cert_ids,
-        cookie,
-        out,
-    ))
+    };
+    kexinit::write_kex(&tables, cookie, out).into()
 }
 
 pub fn harupesat_read_kex(
@@ -105,8 +106,8 @@ pub fn harupesat_read_kex(
         })
         strict_agreed payload.now) }
 {
-    settled_of(negotiation::read_kex(
-        side_of(server),
+    let tables = Tables {
+        side: side_of(server),
         kex,
         key,
         certificate,
@@ -117,7 +118,6 @@ pub fn harupesat_read_kex(
         key_ids,
         cert_kinds,
         cert_ids,
-        strict_agreed,
-        payload,
-    ))
+    };
+    negotiation::read_kex(&tables, strict_agreed, payload).into()
 }

@@ -4,6 +4,7 @@
 //
 // Copyright 2016 Pierre-Étienne Meunier, licensed under the Apache License, Version 2.0 (NOTICE); changed: rewritten for
 // lent slices and tables of numbers.
+// Kept: parameters, numbers and structs are those of include/harupesat.h (harupesat_spelling and the others).
 #![tactic(auto)]
 
 pub mod channel;

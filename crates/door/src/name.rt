@@ -6,16 +6,15 @@ ghost use Rattle.shapes.specs.Shapes.{written_of};
 ghost use Rattle.kinds.specs.Kinds.{name_of, named_of, default_list};
 ghost use Rattle.kinds.specs.Numbers.{numbered, truth_of};
 
-use kinds::truth_of;
 pub use kinds::{Number, Truth};
 use names::CipherId;
-use shapes::{Written, written_of};
+use shapes::Written;
 
 pub fn harupesat_spelling(kind: u8, number: u8, out: &mut [u8]) -> Written
     ensures answer { result ≡ written_of (written out.old 0 (name_of kind number)) }
     ensures bytes { out.new ≡ buffer out.old 0 (name_of kind number) }
 {
-    written_of(kinds::spell(kind, number, out))
+    kinds::spell(kind, number, out).into()
 }
 
 pub fn harupesat_lookup(kind: u8, name: &[u8]) -> Number
@@ -27,18 +26,18 @@ pub fn harupesat_lookup(kind: u8, name: &[u8]) -> Number
 pub fn harupesat_needs_mac(cipher: u8) -> Truth
     ensures { result ≡ truth_of (needs_mac cipher) }
 {
-    truth_of(CipherId(cipher).needs_mac())
+    CipherId(cipher).needs_mac().into()
 }
 
 pub fn harupesat_built_in_integrity(cipher: u8) -> Truth
     ensures { result ≡ truth_of (built_in_integrity cipher) }
 {
-    truth_of(CipherId(cipher).built_in_integrity())
+    CipherId(cipher).built_in_integrity().into()
 }
 
 pub fn harupesat_default_list(kind: u8, out: &mut [u8]) -> Written
     ensures answer { result ≡ written_of (written out.old 0 (default_list kind)) }
     ensures bytes { out.new ≡ buffer out.old 0 (default_list kind) }
 {
-    written_of(kinds::default_list(kind, out))
+    kinds::default_list(kind, out).into()
 }

@@ -4,7 +4,7 @@ ghost use Rattle.wire.specs.Shown.{shown};
 ghost use Rattle.shapes.specs.Shapes.{shown_of};
 
 pub use shapes::Shown;
-use wire::answers::Place;
+use wire::Place;
 
 pub fn harupesat_show(s: &[u8], start: usize, len: usize) -> Shown
     ensures { result ≡ shown_of (record { start = start; len = len })

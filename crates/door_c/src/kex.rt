@@ -1,4 +1,5 @@
 // KEXINIT, written and read.
+// Kept: the ten lists are parameters, since C has no struct of slices (harupesat_write_kex, harupesat_read_kex).
 ghost use Rattle.std.specs.Prelude.{◌≡◌};
 ghost use Rattle.put.specs.Written.{written, buffer};
 ghost use Rattle.judging.specs.Tables.{Tables};
