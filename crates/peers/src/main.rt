@@ -5,11 +5,10 @@
 
 ghost use Rattle.std.specs.Prelude.{◌≤◌, length};
 
-use answer::Refusal;
 use choice::Side;
-use framing::{Counters, GotPacket, Packet};
-use negotiation::{GotNames, Names};
-use preferred::defaults;
+use framing::{Counters, Opened, Packet};
+use judging::Tables;
+use say::{Told, default_tables};
 use std::env::FillError;
 use std::fs::File;
 use std::io;
@@ -28,70 +27,27 @@ const SPACE: usize = 4096;
 // The longest name of a file.
 const NAME: usize = 256;
 
-fn words(to: &mut impl Write, s: &[u8]) -> io::Result<()> {
-    to.write_all(s)
-}
-
-fn number(to: &mut impl Write, s: &[u8], n: usize) -> io::Result<()> {
-    words(to, s)?;
-    write!(to, "{n}")
-}
-
-fn refused(to: &mut impl Write, s: &[u8], r: Refusal) -> io::Result<()> {
-    number(to, s, names::wide(r.number))?;
-    number(to, b" at byte ", r.offset)
-}
-
-fn settled(to: &mut impl Write, n: Names) -> io::Result<()> {
-    let mut text = [0u8; 1024];
-    let end = say::put_settled(n, b", ", &mut text);
-    words(to, front(&text, end))
-}
-
-fn settles(
-    to: &mut impl Write,
-    side: Side,
-    kinds: &[u8],
-    ids: &[u32],
-    payload: &[u8],
-) -> io::Result<()> {
-    let got = negotiation::read_kex(
-        side,
-        &defaults::KEX,
-        &defaults::KEY,
-        b"",
-        &defaults::CIPHER,
-        &defaults::MAC,
-        &defaults::COMPRESSION,
-        kinds,
-        ids,
-        b"",
-        &ids[..0],
-        false,
-        payload,
-    );
-    match got {
-        GotNames::Settled(n) => settled(to, n),
-        GotNames::Refused(r) => refused(to, b" refuses with ", r),
+fn settles(to: &mut impl Write, tables: &Tables, payload: &[u8]) -> io::Result<()> {
+    match negotiation::read_kex(tables, false, payload) {
+        Ok(n) => say::settled(to, n, b", "),
+        Err(r) => write!(to, " refuses with {}", Told(r)),
     }
 }
 
+// A packet that was read of a slice lies in it.
 fn opens(to: &mut impl Write, s: &[u8], p: Packet) -> io::Result<()> {
-    let mut no = 0;
-    let payload = framing::payload(s, p, &mut no);
-    number(to, b" payload ", payload.len())?;
-    words(to, b"\n  our server")?;
-    settles(to, Side::Server, &KINDS, &IDS, payload)?;
-    words(to, b"\n  our client")?;
-    settles(to, Side::Client, b"", &IDS[..0], payload)
+    let payload = p.payload(s).unwrap_or(&[]);
+    write!(to, " payload {}\n  our server", payload.len())?;
+    settles(to, &default_tables(Side::Server, &KINDS, &IDS), payload)?;
+    write!(to, "\n  our client")?;
+    settles(to, &default_tables(Side::Client, &[], &[]), payload)
 }
 
 fn reads(to: &mut impl Write, s: &[u8]) -> io::Result<()> {
-    let got = framing::read(s, Counters { seqn: 0, bytes: 0 });
-    match got {
-        GotPacket::Whole(p) => opens(to, s, p),
-        GotPacket::Need(n) => number(to, b" needs ", n),
-        GotPacket::Refused(r) => refused(to, b" refused with ", r),
+    match framing::read(s, Counters { seqn: 0, bytes: 0 }) {
+        Ok(Opened::Whole(p)) => opens(to, s, p),
+        Ok(Opened::Need(n)) => write!(to, " needs {n}"),
+        Err(r) => write!(to, " refused with {}", Told(r)),
     }
 }
 
@@ -123,12 +79,12 @@ fn read_file(rt: &impl Files, name: &[u8], space: &mut [u8]) -> usize
 }
 
 fn peer(rt: &impl Files, to: &mut impl Write, name: &[u8]) -> io::Result<()> {
-    words(to, name)?;
     let mut space = [0u8; SPACE];
     let got = read_file(rt, name, &mut space);
-    number(to, b": bytes ", got)?;
+    to.write_all(name)?;
+    write!(to, ": bytes {got}")?;
     reads(to, front(&space, got))?;
-    words(to, b"\n")
+    writeln!(to)
 }
 
 // A name that is longer counts as an empty one.

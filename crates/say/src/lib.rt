@@ -1,4 +1,4 @@
-// What was settled, in words and in numbers: for programs to write out, and to compare.
+// What the programs share: the default tables, what was settled, in words and in numbers, and a refusal in words.
 #![tactic(auto)]
 
 ghost use Rattle.std.specs.Prelude.{[], ◌∷◌, ◌≡◌};
@@ -6,11 +6,50 @@ ghost use Rattle.answer.specs.Answer.{done};
 ghost use Rattle.names.specs.Spelled.{spelled};
 ghost use Rattle.put.specs.Runs.{ended, filled};
 ghost use Rattle.put.proofs.RunLaws.{Ran};
+ghost use Rattle.judging.specs.Tables.{lent};
+ghost use Rattle.preferred.specs.Defaults.{defaults};
 ghost use Rattle.say.specs.Words.{numbers_of, key_kind, item, yes_or_no, flag_item, words};
 
+use answer::Refusal;
+use choice::Side;
+use judging::Tables;
 use names::{Kind, put_name};
 use negotiation::Names;
+use preferred::defaults::{CIPHER, COMPRESSION, KEX, KEY, MAC};
 use put::{after, put_bytes};
+use std::fmt;
+use std::io;
+use std::io::Write;
+use text::front;
+
+// The default lists of a side that has these key rows, and no certificate.
+pub fn default_tables<'a>(side: Side, key_kinds: &'a [u8], key_ids: &'a [u32]) -> Tables<'a>
+    ensures { lent result ≡ defaults side key_kinds.now key_ids.now [] [] }
+{
+    Tables {
+        side,
+        kex: &KEX,
+        key: &KEY,
+        certificate: &[],
+        cipher: &CIPHER,
+        mac: &MAC,
+        compression: &COMPRESSION,
+        key_kinds,
+        key_ids,
+        cert_kinds: &[],
+        cert_ids: &[],
+    }
+}
+
+// A reader's refusal: its number, and where.
+#[derive(Clone, Copy, Debug)]
+pub struct Told(pub Refusal);
+
+impl fmt::Display for Told {
+    fn fmt<W: fmt::Write>(&self, f: &mut fmt::Formatter<W>) -> fmt::Result {
+        write!(f, "{} at byte {}", self.0.cause.number(), self.0.offset)
+    }
+}
 
 // The record's values in its own order, a flag as 0 or 1.
 pub fn numbers(n: Names) -> [u8; 10]
@@ -107,4 +146,11 @@ pub fn put_settled(n: Names, before: &[u8], out: &mut [u8]) -> usize
     );
     at = put_flag(before, b"ignore guess ", flags.ignore_guessed, out, at);
     put_flag(before, b"strict ", flags.strict_kex, out, at)
+}
+
+// The same, written.
+pub fn settled(to: &mut impl Write, n: Names, before: &[u8]) -> io::Result<()> {
+    let mut text = [0u8; 1024];
+    let end = put_settled(n, before, &mut text);
+    to.write_all(front(&text, end))
 }

@@ -4,13 +4,12 @@
 
 mod print;
 
-use crate::print::{hex, refused, refused_at, value, wide, words};
-use channels::{GotOpen, OpenChannelMessage};
+use crate::print::{Hex, refused, refused_at};
+use channels::OpenChannelMessage;
 use choice::Side;
-use framing::{Counters, GotPacket, Sealed};
+use framing::{Counters, Opened};
+use judging::Tables;
 use layouts::ChannelType;
-use negotiation::GotNames;
-use put::Put;
 use std::io;
 use std::io::Write;
 use text::front;
@@ -20,29 +19,30 @@ const TOO_LARGE: usize = 262168;
 
 const LARGEST_PACKET: usize = 262176;
 
-// The identity of the server's key.
+const START: Counters = Counters { seqn: 0, bytes: 0 };
+
+// The server's one key row, an Ed25519 key.
+const KINDS: [u8; 1] = [0];
+
 const IDS: [u32; 1] = [1];
 
-fn padding(packet: &[u8]) -> u64 {
-    if packet.len() < 5 {
-        return 0;
-    }
-    wide(packet[4])
+// The byte of a packet that says its padding.
+fn padding(packet: &[u8]) -> u8 {
+    if packet.len() < 5 { 0 } else { packet[4] }
 }
 
 // Clear packets.
 fn writes(to: &mut impl Write, payload: &[u8], out: &mut [u8]) -> io::Result<()> {
-    value(to, b"payload ", payload.len() as u64)?;
-    let w = framing::write(payload, Counters { seqn: 0, bytes: 0 }, out);
-    match w {
-        Sealed::Total(total, _) => {
-            value(to, b": padding ", padding(out))?;
-            value(to, b", total ", total as u64)?;
-            words(to, b", starts ")?;
-            hex(to, front(out, 6))?;
-            words(to, b"\n")
-        }
-        Sealed::Refused(number) => refused(to, number),
+    write!(to, "payload {}", payload.len())?;
+    match framing::write(payload, START, out) {
+        Ok(sealed) => writeln!(
+            to,
+            ": padding {}, total {}, starts {}",
+            padding(out),
+            sealed.total,
+            Hex(front(out, 6))
+        ),
+        Err(cause) => refused(to, cause),
     }
 }
 
@@ -54,21 +54,15 @@ fn largest(to: &mut impl Write) -> io::Result<()> {
 }
 
 fn reads(to: &mut impl Write, s: &[u8]) -> io::Result<()> {
-    hex(to, s)?;
-    let got = framing::read(s, Counters { seqn: 0, bytes: 0 });
-    match got {
-        GotPacket::Need(n) => {
-            value(to, b": need ", n as u64)?;
-            words(to, b"\n")
-        }
-        GotPacket::Whole(p) => {
-            let place = p.payload;
-            value(to, b": end ", p.end as u64)?;
-            value(to, b", payload ", place.len as u64)?;
-            value(to, b", takes ", p.taken as u64)?;
-            words(to, b"\n")
-        }
-        GotPacket::Refused(r) => refused_at(to, r),
+    write!(to, "{}", Hex(s))?;
+    match framing::read(s, START) {
+        Ok(Opened::Need(n)) => writeln!(to, ": need {n}"),
+        Ok(Opened::Whole(p)) => writeln!(
+            to,
+            ": end {}, payload {}, takes {}",
+            p.end, p.payload.len, p.taken
+        ),
+        Err(r) => refused_at(to, r),
     }
 }
 
@@ -85,59 +79,52 @@ fn packets(to: &mut impl Write) -> io::Result<()> {
     reads(to, b"\x00\x04\x00\x22")
 }
 
-// KEXINIT. The lists are curve25519-sha256, ssh-ed25519, a cipher, hmac-sha2-256, none.
+// A client's lists: curve25519-sha256, ssh-ed25519, a cipher, hmac-sha2-256, none.
+fn tables(cipher: &[u8]) -> Tables<'_> {
+    Tables {
+        side: Side::Client,
+        kex: b"\x01",
+        key: b"\x00",
+        certificate: &[],
+        cipher,
+        mac: b"\x04",
+        compression: b"\x00",
+        key_kinds: &[],
+        key_ids: &[],
+        cert_kinds: &[],
+        cert_ids: &[],
+    }
+}
+
+// KEXINIT.
 fn client_writes(to: &mut impl Write, cipher: &[u8]) -> io::Result<()> {
     let mut payload = [0u8; 256];
     let mut out = [0u8; 256];
-    let w = kexinit::write_kex(
-        Side::Client,
-        b"\x01",
-        b"\x00",
-        b"",
-        cipher,
-        b"\x04",
-        b"\x00",
-        b"",
-        &IDS[..0],
-        b"",
-        &IDS[..0],
-        b"sixteen of them.",
-        &mut payload,
-    );
-    match w {
-        Put::Next(n) => writes(to, front(&payload, n), &mut out),
-        Put::Refused(number) => refused(to, number),
+    match kexinit::write_kex(&tables(cipher), b"sixteen of them.", &mut payload) {
+        Ok(n) => writes(to, front(&payload, n), &mut out),
+        Err(cause) => refused(to, cause),
     }
 }
 
 fn kexinits(to: &mut impl Write) -> io::Result<()> {
-    words(to, b"KEXINIT with chacha20: ")?;
+    write!(to, "KEXINIT with chacha20: ")?;
     client_writes(to, b"\x0A")?;
-    words(to, b"KEXINIT with aes128-ctr: ")?;
+    write!(to, "KEXINIT with aes128-ctr: ")?;
     client_writes(to, b"\x02")
 }
 
 // With one Ed25519 key.
 fn server_reads(to: &mut impl Write, cipher: &[u8], p: &[u8]) -> io::Result<()> {
-    value(to, b"KEXINIT of ", p.len() as u64)?;
-    let got = negotiation::read_kex(
-        Side::Server,
-        b"\x01",
-        b"\x00",
-        b"",
-        cipher,
-        b"\x04",
-        b"\x00",
-        b"\x00",
-        &IDS,
-        b"",
-        &IDS[..0],
-        false,
-        p,
-    );
-    match got {
-        GotNames::Settled(_) => words(to, b": settled\n"),
-        GotNames::Refused(r) => refused_at(to, r),
+    let server = Tables {
+        side: Side::Server,
+        key_kinds: &KINDS,
+        key_ids: &IDS,
+        ..tables(cipher)
+    };
+    write!(to, "KEXINIT of {}", p.len())?;
+    match negotiation::read_kex(&server, false, p) {
+        Ok(_) => writeln!(to, ": settled"),
+        Err(r) => refused_at(to, r),
     }
 }
 
@@ -209,30 +196,21 @@ fn kexinit_offsets(to: &mut impl Write) -> io::Result<()> {
 }
 
 // Channel opening.
-fn kind(to: &mut impl Write, t: ChannelType) -> io::Result<()> {
-    match t {
-        ChannelType::Session => words(to, b": session"),
-        _ => words(to, b": another type"),
-    }
-}
-
 fn opens(to: &mut impl Write, body: &[u8]) -> io::Result<()> {
-    value(to, b"opening body of ", body.len() as u64)?;
-    let got = OpenChannelMessage::parse(body);
-    match got {
-        GotOpen::Message(m) => {
-            let typ = m.typ;
-            kind(to, typ)?;
-            value(to, b", channel ", m.recipient_channel as u64)?;
-            value(to, b", window ", m.recipient_window_size as u64)?;
-            value(
+    write!(to, "opening body of {}", body.len())?;
+    match OpenChannelMessage::parse(body) {
+        Ok(m) => {
+            let typ = match m.typ {
+                ChannelType::Session => "session",
+                _ => "another type",
+            };
+            writeln!(
                 to,
-                b", maximum packet ",
-                m.recipient_maximum_packet_size as u64,
-            )?;
-            words(to, b"\n")
+                ": {typ}, channel {}, window {}, maximum packet {}",
+                m.recipient_channel, m.recipient_window_size, m.recipient_maximum_packet_size
+            )
         }
-        GotOpen::Refused(r) => refused_at(to, r),
+        Err(r) => refused_at(to, r),
     }
 }
 
@@ -266,16 +244,10 @@ fn opening_offsets(to: &mut impl Write) -> io::Result<()> {
 
 fn unknown_type(to: &mut impl Write) -> io::Result<()> {
     let mut out = [0u8; 64];
-    words(to, b"failure for an unknown type")?;
-    let w = replies::unknown_type(258, &mut out);
-    match w {
-        Put::Next(n) => {
-            value(to, b": ", n as u64)?;
-            words(to, b" bytes, ")?;
-            hex(to, front(&out, n))?;
-            words(to, b"\n")
-        }
-        Put::Refused(number) => refused(to, number),
+    write!(to, "failure for an unknown type")?;
+    match replies::unknown_type(258, &mut out) {
+        Ok(n) => writeln!(to, ": {n} bytes, {}", Hex(front(&out, n))),
+        Err(cause) => refused(to, cause),
     }
 }
 

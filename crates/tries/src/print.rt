@@ -1,38 +1,28 @@
-// What is printed: words, numbers, bytes, refusals.
-use answer::Refusal;
-use std::io;
+// What is printed: bytes and refusals.
+use answer::{Cause, Refusal};
+use say::Told;
 use std::io::Write;
+use std::{fmt, io};
 
-pub fn wide(x: u8) -> u64 {
-    x as u64
-}
+// Bytes, in two digits to base 16 each.
+#[derive(Clone, Copy, Debug)]
+pub struct Hex<'a>(pub &'a [u8]);
 
-pub fn words(to: &mut impl Write, s: &[u8]) -> io::Result<()> {
-    to.write_all(s)
-}
-
-pub fn value(to: &mut impl Write, s: &[u8], n: u64) -> io::Result<()> {
-    words(to, s)?;
-    write!(to, "{n}")
+impl fmt::Display for Hex<'_> {
+    fn fmt<W: fmt::Write>(&self, f: &mut fmt::Formatter<W>) -> fmt::Result {
+        for byte in self.0 {
+            write!(f, "{byte:02x}")?;
+        }
+        Ok(())
+    }
 }
 
 // By a writer.
-pub fn refused(to: &mut impl Write, number: u8) -> io::Result<()> {
-    value(to, b": refused with ", wide(number))?;
-    words(to, b"\n")
+pub fn refused(to: &mut impl Write, cause: Cause) -> io::Result<()> {
+    writeln!(to, ": refused with {}", cause.number())
 }
 
 // By a reader.
 pub fn refused_at(to: &mut impl Write, r: Refusal) -> io::Result<()> {
-    value(to, b": refused with ", wide(r.number))?;
-    value(to, b" at byte ", r.offset as u64)?;
-    words(to, b"\n")
-}
-
-pub fn hex(to: &mut impl Write, s: &[u8]) -> io::Result<()> {
-    for byte in s {
-        let byte = *byte;
-        write!(to, "{byte:02x}")?;
-    }
-    Ok(())
+    writeln!(to, ": refused with {}", Told(r))
 }
