@@ -1,9 +1,7 @@
 -- The constants compute to the columns of the definition's names. Assumes nothing.
-use mathlib.Core.Path.{◌≡◌, refl}
+use mathlib.Core.Path.{◌≡◌}
 use mathlib.Core.List.{List}
-use mathlib.Core.Option.{Option}
 use Prim.Native.Nat.{ℕ}
-use Rattle.answer.specs.Answer.{Out}
 use Rattle.names.specs.declared.rows.Columns.{Columns}
 use Rattle.names.specs.Tables.{all_names, kex_names, key_names, certificate_names, cipher_names, mac_names, compression_names}
 use Rattle.names.specs.Spelled.{spelled_by}

@@ -1,9 +1,8 @@
 -- A row of any three columns: where it is, what it spells, and the first of several that spells a name.
 -- Assumes nothing.
-use mathlib.Core.Path.{◌≡◌, refl, sym, ap, ◌∙◌}
+use mathlib.Core.Path.{◌≡◌, refl, sym, ◌∙◌}
 use mathlib.Core.Bool.{Bool, true, false, false≢true}
-use mathlib.Core.List.{List, []}
-use mathlib.Core.Logic.{◌⊎◌, inl, inr, ⊎_elim}
+use mathlib.Core.List.{List}
 use mathlib.Core.Option.{Option, some, none}
 use Prim.Native.Nat.{ℕ, suc, ◌+◌, ◌-◌, ◌≤◌, ◌<◌}
 use native.Mathlib.Omega.{arith}
@@ -12,9 +11,7 @@ use lib.ListN.{length, get_or, take, drop}
 use borrow.Author.Tests.{lt-ltb, le-ltb, lt-leb, le-leb, ltb-true, ltb-false, leb-true, leb-false}
 use Rattle.answer.specs.Answer.{Out, refused, done, guard, refuse, ◌>>=◌}
 use Rattle.answer.proofs.Laws.{split, pass, stop}
-use Rattle.put.specs.Written.{written, buffer}
 use Rattle.wire.specs.Shown.{bytes_of}
-use Rattle.text.specs.Same.{same}
 use Rattle.names.specs.Spelled.{entry, row_name, there}
 use Rattle.names.specs.Lookup.{row_from, is}
 

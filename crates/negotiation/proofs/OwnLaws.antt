@@ -1,5 +1,5 @@
 -- Laws of the entry point: what it refuses before it reads, and the own lists that it hands to the stages. Assumes nothing.
-use mathlib.Core.Path.{◌≡◌, sym, ap, ◌∙◌}
+use mathlib.Core.Path.{◌≡◌, ap, ◌∙◌}
 use mathlib.Core.Bool.{Bool, true}
 use mathlib.Core.List.{List}
 use Prim.Native.Nat.{ℕ, ◌≤◌, ◌<◌}
@@ -18,7 +18,6 @@ use Rattle.answer.specs.Refusal.{number, told, IsAtFront}
 use Rattle.answer.specs.Answer.{Out, refused, done, refuse, ◌>>=◌}
 use Rattle.answer.proofs.Laws.{No}
 use Rattle.wire.specs.Fields.{At, here}
-use Rattle.wire.proofs.StepLaws.{went_on, came_out}
 use Rattle.names.specs.declared.rows.Columns.{Columns}
 use Rattle.names.specs.Constant.{AreConstant}
 use Rattle.names.proofs.ConstantLaws.{constant_row}
@@ -27,12 +26,10 @@ use Rattle.choice.specs.Rows.{spells_by, spells_name}
 use Rattle.choice.proofs.ChoiceLaws.{table_spells_lem}
 use Rattle.names.specs.Lookup.{is}
 use Rattle.judging.specs.Tables.{Tables, valid}
-use Rattle.filters.specs.Picked.{member}
 use Rattle.filters.specs.Made.{shown}
 use Rattle.filters.proofs.MadeLaws.{list_any-member}
-use Rattle.names.specs.declared.Kind.TheVariants.{Cipher, Mac, Compression}
 use Rattle.preferred.specs.declared.Own.{Own}
-use Rattle.preferred.specs.Own.{rows, chosen_kex, key_list_rows, strict_name, other, own_of, lists_of}
+use Rattle.preferred.specs.Own.{strict_name, other, own_of, lists_of}
 use Rattle.preferred.proofs.HandedLaws.{lists_valid, lists_own, refusal_invalid, refusal_number}
 use Rattle.stages.specs.declared.Rows.{Rows}
 use Rattle.stages.specs.Stages.{got_rows, read_rows}

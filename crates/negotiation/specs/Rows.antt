@@ -1,5 +1,5 @@
 -- What the code hands over between reading by rows and the record, which holds typed numbers.
-use Rattle.std.specs.Prelude.{Bool, not, ◌&&◌, List, ℕ, ◌-◌, leb}
+use Rattle.std.specs.Prelude.{Bool, not, ◌&&◌, ℕ, ◌-◌, leb}
 use Rattle.answer.specs.Answer.{Out, done, pick, ◌>>=◌}
 use Rattle.names.specs.Tables.{first_row}
 use Rattle.names.specs.declared.Kind.TheVariants.{Key, Certificate, Cipher, Mac, Compression}

@@ -1,9 +1,9 @@
 -- Laws of one list and its choice: one for each answer that the code gives. Assumes nothing.
-use mathlib.Core.Path.{◌≡◌, refl, sym, ap, ◌∙◌}
+use mathlib.Core.Path.{◌≡◌, refl, sym, ◌∙◌}
 use mathlib.Core.Bool.{Bool, true, false, ◌&&◌}
 use mathlib.Core.List.{List, [], ◌∷◌}
 use mathlib.Core.Option.{Option, some, none}
-use Prim.Native.Nat.{ℕ, ◌-◌, ◌≤◌, ◌<◌}
+use Prim.Native.Nat.{ℕ, ◌-◌, ◌≤◌}
 use native.Mathlib.Omega.{arith}
 use borrow.Author.Tests.{ltb-false}
 use lib.Dec.{ltb}
@@ -15,11 +15,10 @@ use Rattle.std.proofs.lemmas.Result.{err_from_is_err_and}
 use Rattle.answer.specs.declared.Cause.{Cause}
 use Rattle.answer.specs.declared.Refusal.{Refusal as Answered}
 use Rattle.answer.specs.Refusal.{Refusal, number as number_of, told}
-use Rattle.answer.specs.Answer.{Out, refused, done, pick, outcome, ◌>>=◌}
+use Rattle.answer.specs.Answer.{refused, done, pick, ◌>>=◌}
 use Rattle.answer.proofs.Laws.{NoAt, split, un_done, not_both}
-use Rattle.wire.specs.declared.cursor.Cursor.{Cursor}
 use Rattle.wire.specs.declared.place.Place.{Place}
-use Rattle.wire.specs.Fields.{At, here, run}
+use Rattle.wire.specs.Fields.{here, run}
 use Rattle.commas.specs.Cut.{cut}
 use Rattle.namelist.specs.Judged.{name_list}
 use Rattle.wire.specs.Shown.{part}

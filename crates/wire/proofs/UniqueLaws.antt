@@ -5,7 +5,6 @@ use Prim.Native.Nat.{ℕ}
 use native.Mathlib.Omega.{arith}
 use Rattle.std.specs.Prelude.{Option, Some, None, Result}
 use Rattle.answer.specs.declared.Refusal.{Refusal as Answered}
-use Rattle.answer.specs.Answer.{Out}
 use Rattle.answer.proofs.Laws.{outcome_unique}
 use Rattle.wire.specs.declared.place.Place.{Place}
 use Rattle.wire.specs.declared.cursor.Cursor.{Cursor}

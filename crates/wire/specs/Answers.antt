@@ -1,5 +1,5 @@
 -- What the answers of the code mean, over the slice s that was lent: document 01's number, or the values.
-use Rattle.std.specs.Prelude.{List, ℕ, Option, Some, None, Result, Ok, Err}
+use Rattle.std.specs.Prelude.{List, ℕ, Option, Some, None, Result}
 use Rattle.answer.specs.declared.Refusal.{Refusal as Answered}
 use Rattle.answer.specs.Answer.{Out, outcome}
 use Rattle.wire.specs.declared.place.Place.{Place}
