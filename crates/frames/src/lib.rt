@@ -9,6 +9,7 @@ use answer::{Cause, Refusal};
 use framing::Opened;
 use shapes::{DONE, NEED, REFUSED};
 
+// Kept: `Frame` and `Sealed` of include/harupesat.h, field by field (harupesat_frame_read, harupesat_frame_write).
 #[repr(C)]
 #[derive(Clone, Copy, Debug, Default, PartialEq, Eq)]
 pub struct Frame {

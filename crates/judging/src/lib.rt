@@ -20,7 +20,8 @@ pub const MOST_ENTRIES: usize = 16;
 // The most key rows of a row table.
 const MOST_KEY_ROWS: usize = 8;
 
-// Ed25519, P256, P384, P521, RSA
+// Ed25519, P256, P384, P521, RSA.
+// Kept: a key row's kind is a number, as C lends it (harupesat_read_kex).
 const KINDS: usize = 5;
 
 // The local tables, all lent: six preference lists of numbers, and a server's two row tables (document 01, "Names and

@@ -13,7 +13,7 @@ use replies::ChannelOpenConfirmation;
 use shapes::{DONE, REFUSED};
 use wire::Place;
 
-// Kept: `typ` is a number, as include/harupesat.h counts the types (harupesat_open).
+// Kept: `Open` and `Confirmation` of include/harupesat.h, field by field; `typ` is a number, as the types are counted there.
 #[repr(C)]
 #[derive(Clone, Copy, Debug, Default, PartialEq, Eq)]
 pub struct Open {

@@ -20,6 +20,7 @@ pub const NEED: u8 = 2;
 pub const UNKNOWN: u8 = 3;
 
 // What a writer answers: `len` bytes stand at the front of the lent output.
+// Kept: `Written` and `Shown` of include/harupesat.h, field by field.
 #[repr(C)]
 #[derive(Clone, Copy, Debug, Default, PartialEq, Eq)]
 pub struct Written {

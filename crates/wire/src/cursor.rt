@@ -10,6 +10,8 @@ use answer::{Cause, Refusal};
 use commas::name_end;
 
 // How far a reader is in the slice that was lent.
+// Kept: the slice is no field, though the two go together: no two answers have one meaning (byte_unique, word_unique,
+// text_unique, name_unique), which would not hold of answers that differ in where equal bytes lie.
 #[derive(Clone, Copy, Debug, PartialEq, Eq)]
 pub struct Cursor {
     pub at: usize,
