@@ -1,42 +1,40 @@
 // Channel opening and its confirmation.
-use crate::print::{answer_at, small, text, value, words};
+use crate::print::Text;
 use door::channel::{Confirmation, Open, harupesat_read_confirmation, harupesat_read_open};
 use std::io;
 use std::io::Write;
 use text::front;
 
 fn opened(to: &mut impl Write, m: Open) -> io::Result<()> {
-    answer_at(to, m.what, m.number, m.offset)?;
-    small(to, b" typ ", m.typ)?;
-    value(to, b" recipient_channel ", m.recipient_channel as u64)?;
-    value(
+    write!(
         to,
-        b" recipient_window_size ",
-        m.recipient_window_size as u64,
+        ": what {} number {} offset {}",
+        m.what, m.number, m.offset
     )?;
-    value(
+    write!(
         to,
-        b" recipient_maximum_packet_size ",
-        m.recipient_maximum_packet_size as u64,
+        " typ {} recipient_channel {}",
+        m.typ, m.recipient_channel
     )?;
-    places(to, m)
-}
-
-fn places(to: &mut impl Write, m: Open) -> io::Result<()> {
-    value(to, b" text_start ", m.text_start as u64)?;
-    value(to, b" text_len ", m.text_len as u64)?;
-    value(to, b" port ", m.port as u64)?;
-    value(to, b" originator_start ", m.originator_start as u64)?;
-    value(to, b" originator_len ", m.originator_len as u64)?;
-    value(to, b" originator_port ", m.originator_port as u64)?;
-    value(to, b" rest_start ", m.rest_start as u64)?;
-    value(to, b" rest_len ", m.rest_len as u64)?;
-    words(to, b"\n")
+    write!(to, " recipient_window_size {}", m.recipient_window_size)?;
+    write!(
+        to,
+        " recipient_maximum_packet_size {}",
+        m.recipient_maximum_packet_size
+    )?;
+    write!(to, " text_start {} text_len {}", m.text_start, m.text_len)?;
+    write!(
+        to,
+        " port {} originator_start {}",
+        m.port, m.originator_start
+    )?;
+    write!(to, " originator_len {}", m.originator_len)?;
+    write!(to, " originator_port {}", m.originator_port)?;
+    writeln!(to, " rest_start {} rest_len {}", m.rest_start, m.rest_len)
 }
 
 fn opens(to: &mut impl Write, body: &[u8]) -> io::Result<()> {
-    words(to, b"read_open ")?;
-    text(to, body)?;
+    write!(to, "read_open {}", Text(body))?;
     opened(to, harupesat_read_open(body))
 }
 
@@ -125,17 +123,19 @@ fn field_refused(to: &mut impl Write) -> io::Result<()> {
 }
 
 fn confirmed(to: &mut impl Write, m: Confirmation) -> io::Result<()> {
-    answer_at(to, m.what, m.number, m.offset)?;
-    value(to, b" recipient_channel ", m.recipient_channel as u64)?;
-    value(to, b" sender_channel ", m.sender_channel as u64)?;
-    value(to, b" initial_window_size ", m.initial_window_size as u64)?;
-    value(to, b" maximum_packet_size ", m.maximum_packet_size as u64)?;
-    words(to, b"\n")
+    write!(
+        to,
+        ": what {} number {} offset {}",
+        m.what, m.number, m.offset
+    )?;
+    write!(to, " recipient_channel {}", m.recipient_channel)?;
+    write!(to, " sender_channel {}", m.sender_channel)?;
+    write!(to, " initial_window_size {}", m.initial_window_size)?;
+    writeln!(to, " maximum_packet_size {}", m.maximum_packet_size)
 }
 
 fn confirms(to: &mut impl Write, body: &[u8]) -> io::Result<()> {
-    words(to, b"read_confirmation ")?;
-    text(to, body)?;
+    write!(to, "read_confirmation {}", Text(body))?;
     confirmed(to, harupesat_read_confirmation(body))
 }
 
@@ -159,14 +159,15 @@ pub fn confirm(to: &mut impl Write) -> io::Result<()> {
 }
 
 fn long_body(to: &mut impl Write, body: &[u8]) -> io::Result<()> {
-    words(to, b"read_open 262175")?;
-    opened(to, harupesat_read_open(front(body, 262175)))?;
-    words(to, b"read_open 262176")?;
-    opened(to, harupesat_read_open(body))?;
-    words(to, b"read_confirmation 262175")?;
-    confirmed(to, harupesat_read_confirmation(front(body, 262175)))?;
-    words(to, b"read_confirmation 262176")?;
-    confirmed(to, harupesat_read_confirmation(body))
+    for n in [262175, 262176] {
+        write!(to, "read_open {n}")?;
+        opened(to, harupesat_read_open(front(body, n)))?;
+    }
+    for n in [262175, 262176] {
+        write!(to, "read_confirmation {n}")?;
+        confirmed(to, harupesat_read_confirmation(front(body, n)))?;
+    }
+    Ok(())
 }
 
 // "Channel body over 262,175": an empty type, or recipient 0, and maximum packet 1.

@@ -1,17 +1,19 @@
 // CHANNEL_OPEN_FAILURE.
-use crate::print::{MARK, ends, full, small, text, value, words, wrote};
+use crate::print::{MARK, Text, ends, full};
 use door::channel::{harupesat_fail, harupesat_unknown_type};
 use std::io;
 use std::io::Write;
 use text::front;
 
 fn fails(to: &mut impl Write, reason: u8, why: &[u8], out: &mut [u8]) -> io::Result<()> {
-    small(to, b"fail 258 reason ", reason)?;
-    words(to, b" text ")?;
-    text(to, why)?;
-    value(to, b" into ", out.len() as u64)?;
-    wrote(to, harupesat_fail(258, reason, why, out))?;
-    full(to, out)
+    write!(
+        to,
+        "fail 258 reason {reason} text {} into {}",
+        Text(why),
+        out.len()
+    )?;
+    let w = harupesat_fail(258, reason, why, out);
+    full(to, w, out)
 }
 
 pub fn fail(to: &mut impl Write) -> io::Result<()> {
@@ -28,10 +30,14 @@ pub fn fail(to: &mut impl Write) -> io::Result<()> {
 }
 
 fn fails_long(to: &mut impl Write, why: &[u8], out: &mut [u8]) -> io::Result<()> {
-    value(to, b"fail 258 reason 4 text of ", why.len() as u64)?;
-    value(to, b" into ", out.len() as u64)?;
-    wrote(to, harupesat_fail(258, 4, why, out))?;
-    ends(to, out)
+    write!(
+        to,
+        "fail 258 reason 4 text of {} into {}",
+        why.len(),
+        out.len()
+    )?;
+    let w = harupesat_fail(258, 4, why, out);
+    ends(to, w, out)
 }
 
 // "Failure text over 1,024"; 1 before 8.
@@ -46,9 +52,9 @@ pub fn fail_long(to: &mut impl Write) -> io::Result<()> {
 }
 
 fn unknown(to: &mut impl Write, out: &mut [u8]) -> io::Result<()> {
-    value(to, b"unknown_type 258 into ", out.len() as u64)?;
-    wrote(to, harupesat_unknown_type(258, out))?;
-    full(to, out)
+    write!(to, "unknown_type 258 into {}", out.len())?;
+    let w = harupesat_unknown_type(258, out);
+    full(to, w, out)
 }
 
 pub fn unknown_type(to: &mut impl Write) -> io::Result<()> {

@@ -1,30 +1,23 @@
 // Clear packets.
-use crate::print::{MARK, answer, answer_at, ends, hex, value, words};
+use crate::print::{Hex, MARK, TwoEnds};
 use door::frame::{Frame, Sealed, harupesat_frame_read, harupesat_frame_write};
 use std::io;
 use std::io::Write;
 use text::front;
 
 fn frame(to: &mut impl Write, f: Frame) -> io::Result<()> {
-    answer_at(to, f.what, f.number, f.offset)?;
-    value(to, b" need ", f.need as u64)?;
-    value(to, b" start ", f.start as u64)?;
-    value(to, b" len ", f.len as u64)?;
-    value(to, b" end ", f.end as u64)?;
-    value(to, b" taken ", f.taken as u64)?;
-    counters(to, f.seqn, f.bytes)?;
-    words(to, b"\n")
-}
-
-fn counters(to: &mut impl Write, seqn: u32, bytes: u64) -> io::Result<()> {
-    value(to, b" seqn ", seqn as u64)?;
-    value(to, b" bytes ", bytes)
+    write!(
+        to,
+        ": what {} number {} offset {}",
+        f.what, f.number, f.offset
+    )?;
+    write!(to, " need {} start {} len {}", f.need, f.start, f.len)?;
+    write!(to, " end {} taken {}", f.end, f.taken)?;
+    writeln!(to, " seqn {} bytes {}", f.seqn, f.bytes)
 }
 
 fn reads(to: &mut impl Write, s: &[u8], seqn: u32, bytes: u64) -> io::Result<()> {
-    words(to, b"frame_read")?;
-    hex(to, s)?;
-    counters(to, seqn, bytes)?;
+    write!(to, "frame_read{} seqn {seqn} bytes {bytes}", Hex(s))?;
     frame(to, harupesat_frame_read(s, seqn, bytes))
 }
 
@@ -59,9 +52,9 @@ fn whole(to: &mut impl Write) -> io::Result<()> {
 }
 
 fn largest(to: &mut impl Write, s: &[u8]) -> io::Result<()> {
-    words(to, b"frame_read 262180 of 262181")?;
+    write!(to, "frame_read 262180 of 262181")?;
     frame(to, harupesat_frame_read(front(s, 262180), 41, 100))?;
-    words(to, b"frame_read 262181")?;
+    write!(to, "frame_read 262181")?;
     frame(to, harupesat_frame_read(s, 41, 100))
 }
 
@@ -77,14 +70,8 @@ pub fn read(to: &mut impl Write) -> io::Result<()> {
 }
 
 fn sealed(to: &mut impl Write, w: Sealed) -> io::Result<()> {
-    answer(to, w.what, w.number)?;
-    value(to, b" len ", w.len as u64)?;
-    counters(to, w.seqn, w.bytes)
-}
-
-fn call(to: &mut impl Write, seqn: u32, bytes: u64, room: usize) -> io::Result<()> {
-    counters(to, seqn, bytes)?;
-    value(to, b" into ", room as u64)
+    write!(to, ": what {} number {} len {}", w.what, w.number, w.len)?;
+    write!(to, " seqn {} bytes {}", w.seqn, w.bytes)
 }
 
 fn writes(
@@ -94,13 +81,10 @@ fn writes(
     bytes: u64,
     out: &mut [u8],
 ) -> io::Result<()> {
-    words(to, b"frame_write")?;
-    hex(to, payload)?;
-    call(to, seqn, bytes, out.len())?;
+    write!(to, "frame_write{}", Hex(payload))?;
+    write!(to, " seqn {seqn} bytes {bytes} into {}", out.len())?;
     sealed(to, harupesat_frame_write(payload, seqn, bytes, out))?;
-    words(to, b" out")?;
-    hex(to, out)?;
-    words(to, b"\n")
+    writeln!(to, " out{}", Hex(out))
 }
 
 pub fn write(to: &mut impl Write) -> io::Result<()> {
@@ -117,10 +101,10 @@ pub fn write(to: &mut impl Write) -> io::Result<()> {
 }
 
 fn writes_zeros(to: &mut impl Write, payload: &[u8], out: &mut [u8]) -> io::Result<()> {
-    value(to, b"frame_write zeros ", payload.len() as u64)?;
-    call(to, 41, 100, out.len())?;
+    write!(to, "frame_write zeros {}", payload.len())?;
+    write!(to, " seqn 41 bytes 100 into {}", out.len())?;
     sealed(to, harupesat_frame_write(payload, 41, 100, out))?;
-    ends(to, out)
+    writeln!(to, " out{}", TwoEnds(out))
 }
 
 fn zeros_written(to: &mut impl Write, zeros: &[u8], out: &mut [u8]) -> io::Result<()> {

@@ -1,223 +1,141 @@
 // KEXINIT, read.
-use crate::print::{answer_at, flag, small, text, value, words};
-use crate::tables;
+use crate::print::Text;
+use crate::tables::{Tables, no_lists};
 use door::kex::{Settled, harupesat_read_kex};
 use std::io;
 use std::io::Write;
 use text::front;
 
 fn settled(to: &mut impl Write, n: Settled) -> io::Result<()> {
-    answer_at(to, n.what, n.number, n.offset)?;
-    small(to, b" kex ", n.kex)?;
-    small(to, b" key ", n.key)?;
-    small(to, b" cipher ", n.cipher)?;
-    small(to, b" client_mac ", n.client_mac)?;
-    small(to, b" server_mac ", n.server_mac)?;
-    directions(to, n)
-}
-
-fn directions(to: &mut impl Write, n: Settled) -> io::Result<()> {
-    small(to, b" client_compression ", n.client_compression)?;
-    small(to, b" server_compression ", n.server_compression)?;
-    flag(to, b" host_key_is_certificate ", n.host_key_is_certificate)?;
-    flag(to, b" ignore_guessed ", n.ignore_guessed)?;
-    flag(to, b" strict_kex ", n.strict_kex)?;
-    words(to, b"\n")
-}
-
-fn reads(
-    to: &mut impl Write,
-    server: bool,
-    kex: &[u8],
-    key: &[u8],
-    certificate: &[u8],
-    cipher: &[u8],
-    mac: &[u8],
-    compression: &[u8],
-    key_kinds: &[u8],
-    key_ids: &[u32],
-    cert_kinds: &[u8],
-    cert_ids: &[u32],
-    strict_agreed: bool,
-    p: &[u8],
-) -> io::Result<()> {
-    words(to, b"read_kex")?;
-    tables::side(to, server)?;
-    tables::lists(to, kex, key, certificate, cipher, mac, compression)?;
-    tables::rows(to, key_kinds, key_ids, cert_kinds, cert_ids)?;
-    flag(to, b" strict_agreed ", strict_agreed)?;
-    value(to, b" payload ", p.len() as u64)?;
-    settled(
+    write!(
         to,
-        harupesat_read_kex(
-            server,
-            kex,
-            key,
-            certificate,
-            cipher,
-            mac,
-            compression,
-            key_kinds,
-            key_ids,
-            cert_kinds,
-            cert_ids,
-            strict_agreed,
-            p,
-        ),
-    )
+        ": what {} number {} offset {}",
+        n.what, n.number, n.offset
+    )?;
+    write!(to, " kex {} key {} cipher {}", n.kex, n.key, n.cipher)?;
+    write!(
+        to,
+        " client_mac {} server_mac {}",
+        n.client_mac, n.server_mac
+    )?;
+    write!(to, " client_compression {}", n.client_compression)?;
+    write!(to, " server_compression {}", n.server_compression)?;
+    let certificate = u8::from(n.host_key_is_certificate);
+    let ignored = u8::from(n.ignore_guessed);
+    let strict = u8::from(n.strict_kex);
+    write!(to, " host_key_is_certificate {certificate}")?;
+    writeln!(to, " ignore_guessed {ignored} strict_kex {strict}")
 }
 
-// A server with an RSA key.
-fn server_reads(
-    to: &mut impl Write,
-    kex: &[u8],
-    key: &[u8],
-    cipher: &[u8],
-    mac: &[u8],
-    compression: &[u8],
-    strict_agreed: bool,
-    p: &[u8],
-) -> io::Result<()> {
-    let ids = [7u32];
-    let no = [0u32];
-    let none = front(p, 0);
-    reads(
-        to,
-        true,
-        kex,
-        key,
-        none,
-        cipher,
-        mac,
-        compression,
-        b"\x04",
-        &ids,
-        none,
-        &no[..0],
+fn reads(to: &mut impl Write, t: Tables, strict_agreed: bool, p: &[u8]) -> io::Result<()> {
+    let strict = u8::from(strict_agreed);
+    write!(to, "read_kex{t} strict_agreed {strict} payload {}", p.len())?;
+    let n = harupesat_read_kex(
+        t.server,
+        t.kex,
+        t.key,
+        t.certificate,
+        t.cipher,
+        t.mac,
+        t.compression,
+        t.key_kinds,
+        t.key_ids,
+        t.cert_kinds,
+        t.cert_ids,
         strict_agreed,
         p,
-    )
+    );
+    settled(to, n)
 }
 
-fn client_reads(
-    to: &mut impl Write,
-    kex: &[u8],
-    key: &[u8],
-    certificate: &[u8],
-    cipher: &[u8],
-    mac: &[u8],
-    strict_agreed: bool,
-    p: &[u8],
-) -> io::Result<()> {
-    let ids = [0u32];
-    let no_ids = &ids[..0];
-    let none = front(p, 0);
-    reads(
-        to,
-        false,
+// A server with an RSA key, which settles on aes256-cbc and the two MACs.
+fn server<'a>(kex: &'a [u8], key: &'a [u8]) -> Tables<'a> {
+    Tables {
         kex,
         key,
-        certificate,
-        cipher,
-        mac,
-        b"\x00",
-        none,
-        no_ids,
-        none,
-        no_ids,
-        strict_agreed,
-        p,
-    )
+        cipher: b"\x09",
+        mac: b"\x02\x03",
+        compression: b"\x00",
+        key_kinds: b"\x04",
+        key_ids: &[7],
+        ..no_lists(true)
+    }
 }
 
 // The same tables on either side; the two MACs are not the same.
 fn sides(to: &mut impl Write, p: &[u8]) -> io::Result<()> {
-    let kex = b"\x01\x08\x0C";
-    let key = b"\x05\x06";
-    let cipher = b"\x02\x09";
-    let mac = b"\x02\x04\x03";
-    server_reads(to, kex, key, cipher, mac, b"\x00", false, p)?;
-    client_reads(to, kex, key, front(p, 0), cipher, mac, false, p)
-}
-
-// A server that settles on aes256-cbc and the two MACs.
-fn with_names(
-    to: &mut impl Write,
-    kex: &[u8],
-    key: &[u8],
-    strict_agreed: bool,
-    p: &[u8],
-) -> io::Result<()> {
-    server_reads(
-        to,
-        kex,
-        key,
-        b"\x09",
-        b"\x02\x03",
-        b"\x00",
-        strict_agreed,
-        p,
-    )
+    let t = Tables {
+        cipher: b"\x02\x09",
+        mac: b"\x02\x04\x03",
+        ..server(b"\x01\x08\x0C", b"\x05\x06")
+    };
+    reads(to, t, false, p)?;
+    let client = Tables {
+        server: false,
+        key_kinds: &[],
+        key_ids: &[],
+        ..t
+    };
+    reads(to, client, false, p)
 }
 
 // The guess and strict key exchange.
 fn flags(to: &mut impl Write, p: &[u8]) -> io::Result<()> {
-    with_names(to, b"\x08\x01\x0C", b"\x06\x05", false, p)?;
-    with_names(to, b"\x01\x08", b"\x06\x05", false, p)?;
-    with_names(to, b"\x08\x01", b"\x05\x06", false, p)?;
-    with_names(to, b"\x08\x0B", b"\x06", false, p)?;
-    with_names(to, b"\x08", b"\x06", true, p)
+    reads(to, server(b"\x08\x01\x0C", b"\x06\x05"), false, p)?;
+    reads(to, server(b"\x01\x08", b"\x06\x05"), false, p)?;
+    reads(to, server(b"\x08\x01", b"\x05\x06"), false, p)?;
+    reads(to, server(b"\x08\x0B", b"\x06"), false, p)?;
+    reads(to, server(b"\x08", b"\x06"), true, p)
 }
 
 // 10, 11, 9.
 fn no_name(to: &mut impl Write, p: &[u8]) -> io::Result<()> {
-    with_names(to, b"\x00", b"\x06", false, p)?;
-    with_names(to, b"\x08", b"\x00", false, p)?;
-    with_names(to, b"\x0D", b"\x06", false, p)
+    reads(to, server(b"\x00", b"\x06"), false, p)?;
+    reads(to, server(b"\x08", b"\x00"), false, p)?;
+    reads(to, server(b"\x0D", b"\x06"), false, p)
 }
 
-fn with_ciphers(
-    to: &mut impl Write,
-    cipher: &[u8],
-    mac: &[u8],
-    compression: &[u8],
-    p: &[u8],
-) -> io::Result<()> {
-    server_reads(to, b"\x08", b"\x06", cipher, mac, compression, false, p)
+// With lists that settle.
+fn settling() -> Tables<'static> {
+    server(b"\x08", b"\x06")
 }
 
 // 12, 13 for each direction, 14.
 fn no_cipher(to: &mut impl Write, p: &[u8]) -> io::Result<()> {
-    let cipher = b"\x09";
-    let compression = b"\x00";
-    with_ciphers(to, b"\x0A", b"\x02\x03", compression, p)?;
-    with_ciphers(to, cipher, b"\x02", compression, p)?;
-    with_ciphers(to, cipher, b"\x03", compression, p)?;
-    with_ciphers(to, cipher, b"\x02\x03", front(p, 0), p)
-}
-
-// With lists that settle.
-fn payload(to: &mut impl Write, p: &[u8]) -> io::Result<()> {
-    with_names(to, b"\x08", b"\x06", false, p)
+    let t = settling();
+    reads(
+        to,
+        Tables {
+            cipher: b"\x0A",
+            ..t
+        },
+        false,
+        p,
+    )?;
+    reads(to, Tables { mac: b"\x02", ..t }, false, p)?;
+    reads(to, Tables { mac: b"\x03", ..t }, false, p)?;
+    reads(
+        to,
+        Tables {
+            compression: &[],
+            ..t
+        },
+        false,
+        p,
+    )
 }
 
 // 6, 2, 2, 5.
 fn payloads(to: &mut impl Write, p: &[u8]) -> io::Result<()> {
-    payload(to, front(p, 16))?;
-    payload(to, front(p, 17))?;
-    payload(to, front(p, 271))?;
-    payload(to, p)
-}
-
-fn offered(to: &mut impl Write, s: &[u8]) -> io::Result<()> {
-    words(to, b"payload ")?;
-    text(to, s)?;
-    words(to, b"\n")
+    for n in [16, 17, 271, 273] {
+        reads(to, settling(), false, front(p, n))?;
+    }
+    Ok(())
 }
 
 fn client_offered(to: &mut impl Write, p: &[u8]) -> io::Result<()> {
     let whole = front(p, 272);
-    offered(to, p)?;
+    writeln!(to, "payload {}", Text(p))?;
     sides(to, whole)?;
     flags(to, whole)?;
     no_name(to, whole)?;
@@ -240,30 +158,26 @@ pub fn client_offer(to: &mut impl Write) -> io::Result<()> {
         \x00\x00\x00\x04none\
         \x00\x00\x00\x00\x00\x00\x00\x00\x01\x00\x00\x00\x00\x00",
     )?;
-    payload(to, b"\x14sixteen.of.them.\x00\x00\x00\x01\xFF")
+    reads(
+        to,
+        settling(),
+        false,
+        b"\x14sixteen.of.them.\x00\x00\x00\x01\xFF",
+    )
 }
 
 // With an RSA key of identity 7, an Ed25519 key of identity 8, and an RSA certificate.
 fn server_certified(to: &mut impl Write, identity: u32, p: &[u8]) -> io::Result<()> {
-    let ids = [7u32, 8];
-    let cert_ids = [identity];
-    let one = b"\x04";
-    reads(
-        to,
-        true,
-        b"\x01",
-        b"\x04\x00",
-        front(p, 0),
-        b"\x0A",
-        one,
-        b"\x00",
-        b"\x04\x00",
-        &ids,
-        one,
-        &cert_ids,
-        false,
-        p,
-    )
+    let t = Tables {
+        cipher: b"\x0A",
+        mac: b"\x04",
+        key_kinds: b"\x04\x00",
+        key_ids: &[7, 8],
+        cert_kinds: b"\x04",
+        cert_ids: &[identity],
+        ..server(b"\x01", b"\x04\x00")
+    };
+    reads(to, t, false, p)
 }
 
 fn client_certified(
@@ -273,24 +187,23 @@ fn client_certified(
     strict_agreed: bool,
     p: &[u8],
 ) -> io::Result<()> {
-    client_reads(
-        to,
+    let t = Tables {
         kex,
-        b"\x00",
+        key: b"\x00",
         certificate,
-        b"\x0A",
-        b"\x04",
-        strict_agreed,
-        p,
-    )
+        cipher: b"\x0A",
+        mac: b"\x04",
+        compression: b"\x00",
+        ..no_lists(false)
+    };
+    reads(to, t, strict_agreed, p)
 }
 
 fn server_offered(to: &mut impl Write, p: &[u8]) -> io::Result<()> {
-    let other = b"\x01\x0C";
-    offered(to, p)?;
+    writeln!(to, "payload {}", Text(p))?;
     client_certified(to, b"\x01\x0B", b"\x04", false, p)?;
-    client_certified(to, other, front(p, 0), false, p)?;
-    client_certified(to, other, front(p, 0), true, p)?;
+    client_certified(to, b"\x01\x0C", &[], false, p)?;
+    client_certified(to, b"\x01\x0C", &[], true, p)?;
     server_certified(to, 7, p)?;
     server_certified(to, 9, p)
 }
@@ -311,15 +224,16 @@ pub fn server_offer(to: &mut impl Write) -> io::Result<()> {
     )
 }
 
-fn long_payload(to: &mut impl Write, zeros: &[u8]) -> io::Result<()> {
-    let none = front(zeros, 0);
-    payload(to, front(zeros, 262176))?;
-    payload(to, zeros)?;
-    server_reads(to, b"\x0D", none, none, none, none, false, zeros)
-}
-
 // "KEXINIT payload over 262,176 bytes": zeros have an empty kex list. 9 before 1.
 pub fn long(to: &mut impl Write) -> io::Result<()> {
     let zeros = [0u8; 262177];
-    long_payload(to, &zeros)
+    reads(to, settling(), false, front(&zeros, 262176))?;
+    reads(to, settling(), false, &zeros)?;
+    let t = Tables {
+        cipher: &[],
+        mac: &[],
+        compression: &[],
+        ..server(b"\x0D", &[])
+    };
+    reads(to, t, false, &zeros)
 }

@@ -1,133 +1,84 @@
-// What is printed: words, numbers, flags as 0 and 1, bytes.
+// What is printed: numbers, bytes, a writer's answer, and the lent output after it.
 use door::Written;
-use std::io;
 use std::io::Write;
+use std::{fmt, io};
 use text::front;
 
 // What stands in every lent output before a call.
 pub const MARK: u8 = b'#';
 
-pub fn words(to: &mut impl Write, s: &[u8]) -> io::Result<()> {
-    to.write_all(s)
-}
+// Numbers in decimal, a space before each.
+#[derive(Clone, Copy, Debug)]
+pub struct Numbers<'a, N>(pub &'a [N]);
 
-pub fn value(to: &mut impl Write, s: &[u8], n: u64) -> io::Result<()> {
-    words(to, s)?;
-    write!(to, "{n}")
-}
-
-fn wide(x: u8) -> u64 {
-    x as u64
-}
-
-fn wide_word(x: u32) -> u64 {
-    x as u64
-}
-
-pub fn small(to: &mut impl Write, s: &[u8], n: u8) -> io::Result<()> {
-    value(to, s, wide(n))
-}
-
-pub fn flag(to: &mut impl Write, s: &[u8], b: bool) -> io::Result<()> {
-    if b { value(to, s, 1) } else { value(to, s, 0) }
-}
-
-// What every answer starts with.
-pub fn answer(to: &mut impl Write, what: u8, number: u8) -> io::Result<()> {
-    small(to, b": what ", what)?;
-    small(to, b" number ", number)
-}
-
-// A reader's answer.
-pub fn answer_at(to: &mut impl Write, what: u8, number: u8, offset: usize) -> io::Result<()> {
-    answer(to, what, number)?;
-    value(to, b" offset ", offset as u64)
-}
-
-fn spaced(to: &mut impl Write, n: u64) -> io::Result<()> {
-    value(to, b" ", n)
-}
-
-// Numbers in decimal.
-pub fn numbers(to: &mut impl Write, s: &[u8], ns: &[u8]) -> io::Result<()> {
-    words(to, s)?;
-    for n in ns {
-        spaced(to, wide(*n))?;
+impl<N: fmt::Display> fmt::Display for Numbers<'_, N> {
+    fn fmt<W: fmt::Write>(&self, f: &mut fmt::Formatter<W>) -> fmt::Result {
+        for n in self.0 {
+            write!(f, " {n}")?;
+        }
+        Ok(())
     }
-    Ok(())
 }
 
-pub fn identities(to: &mut impl Write, s: &[u8], ns: &[u32]) -> io::Result<()> {
-    words(to, s)?;
-    for n in ns {
-        spaced(to, wide_word(*n))?;
+// Bytes in two digits to base 16, a space before each.
+#[derive(Clone, Copy, Debug)]
+pub struct Hex<'a>(pub &'a [u8]);
+
+impl fmt::Display for Hex<'_> {
+    fn fmt<W: fmt::Write>(&self, f: &mut fmt::Formatter<W>) -> fmt::Result {
+        for b in self.0 {
+            write!(f, " {b:02x}")?;
+        }
+        Ok(())
     }
-    Ok(())
 }
 
-fn digits(to: &mut impl Write, b: u8) -> io::Result<()> {
-    words(to, b" ")?;
-    write!(to, "{b:02x}")
-}
+// Bytes as text: a letter, a digit, most signs of a name and the mark stand for themselves.
+#[derive(Clone, Copy, Debug)]
+pub struct Text<'a>(pub &'a [u8]);
 
-pub fn hex(to: &mut impl Write, s: &[u8]) -> io::Result<()> {
-    for b in s {
-        digits(to, *b)?;
+impl fmt::Display for Text<'_> {
+    fn fmt<W: fmt::Write>(&self, f: &mut fmt::Formatter<W>) -> fmt::Result {
+        for b in self.0 {
+            match *b {
+                MARK | b','..=b'[' | b']'..=b'z' => f.write_char(char::from(*b))?,
+                _ => write!(f, "\\{b:02x}")?,
+            }
+        }
+        Ok(())
     }
-    Ok(())
-}
-
-// A byte that stands for itself: a letter, a digit, most signs of a name, the mark.
-fn plain(b: u8) -> bool {
-    if b == MARK {
-        return true;
-    }
-    b >= 44 && b <= 122 && b != 92
-}
-
-fn letter(to: &mut impl Write, b: u8) -> io::Result<()> {
-    if plain(b) {
-        let one = [b];
-        return words(to, &one);
-    }
-    words(to, b"\\")?;
-    write!(to, "{b:02x}")
-}
-
-pub fn text(to: &mut impl Write, s: &[u8]) -> io::Result<()> {
-    for b in s {
-        letter(to, *b)?;
-    }
-    Ok(())
-}
-
-// The last n bytes.
-fn back(s: &[u8], n: usize) -> &[u8] {
-    if n <= s.len() {
-        let at = s.len() - n;
-        return &s[at..];
-    }
-    s
 }
 
 // A long output by its two ends.
-pub fn ends(to: &mut impl Write, out: &[u8]) -> io::Result<()> {
-    words(to, b" out")?;
-    hex(to, front(out, 6))?;
-    words(to, b" ..")?;
-    hex(to, back(out, 2))?;
-    words(to, b"\n")
-}
+#[derive(Clone, Copy, Debug)]
+pub struct TwoEnds<'a>(pub &'a [u8]);
 
-// An output, all of it.
-pub fn full(to: &mut impl Write, out: &[u8]) -> io::Result<()> {
-    words(to, b" out ")?;
-    text(to, out)?;
-    words(to, b"\n")
+impl fmt::Display for TwoEnds<'_> {
+    fn fmt<W: fmt::Write>(&self, f: &mut fmt::Formatter<W>) -> fmt::Result {
+        let last = &self.0[self.0.len().saturating_sub(2)..];
+        write!(f, "{} ..{}", Hex(front(self.0, 6)), Hex(last))
+    }
 }
 
 // A writer's answer.
 pub fn wrote(to: &mut impl Write, w: Written) -> io::Result<()> {
-    answer(to, w.what, w.number)?;
-    value(to, b" len ", w.len as u64)
+    write!(to, ": what {} number {} len {}", w.what, w.number, w.len)
+}
+
+// With a long output.
+pub fn ends(to: &mut impl Write, w: Written, out: &[u8]) -> io::Result<()> {
+    wrote(to, w)?;
+    writeln!(to, " out{}", TwoEnds(out))
+}
+
+// With all of an output, as text.
+pub fn full(to: &mut impl Write, w: Written, out: &[u8]) -> io::Result<()> {
+    wrote(to, w)?;
+    writeln!(to, " out {}", Text(out))
+}
+
+// With all of an output, in numbers.
+pub fn bytes(to: &mut impl Write, w: Written, out: &[u8]) -> io::Result<()> {
+    wrote(to, w)?;
+    writeln!(to, " out{}", Hex(out))
 }

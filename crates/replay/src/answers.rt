@@ -1,244 +1,139 @@
-// What each function of ours answered, told.
+// What a function of ours answered, told in the words of a recorded line.
 use crate::tables::part;
-use crate::tell::{NEED, Told, bytes, number, refused, refused_at, word};
-use answer::refuse_at;
-use channels::{GotOpen, OpenChannelMessage};
-use framing::{Counters, GotPacket, Packet, Sealed};
+use crate::tell::Quoted;
+use answer::{Cause, Refusal};
+use channels::OpenChannelMessage;
+use framing::{Counters, Packet};
 use layouts::{ChannelType, StreamLocalChannelInfo, TcpChannelInfo};
-use negotiation::GotNames;
-use put::Put;
-use replies::{ChannelOpenConfirmation, GotConfirmation};
-use shapes::{DONE, Shown};
-use std::io;
-use std::io::Write;
-use text::front;
-use wire::answers::Place;
+use negotiation::Names;
+use replies::ChannelOpenConfirmation;
+use std::fmt;
 
-fn ok(to: &mut impl Write, line: &[u8], at: usize) -> io::Result<usize> {
-    word(to, line, at, b"ok")
+// What was accepted, with the bytes that its places lie in.
+#[derive(Clone, Copy, Debug)]
+pub enum Values<'a> {
+    Settled(Names),
+    Bytes(&'a [u8]),
+    Whole(Packet, &'a [u8]),
+    Sealed(Counters, &'a [u8]),
+    Opening(OpenChannelMessage, &'a [u8]),
+    Confirmed(ChannelOpenConfirmation),
 }
 
-fn accepted(at: usize) -> Told {
-    Told { at, sort: 0 }
+// A reader's refusal says where.
+#[derive(Clone, Copy, Debug)]
+pub enum Answer<'a> {
+    Accepted(Values<'a>),
+    Need(usize),
+    Refused { number: u8, offset: Option<usize> },
 }
 
-fn each(to: &mut impl Write, line: &[u8], at: usize, values: &[u8]) -> io::Result<usize> {
-    let mut p = at;
-    for value in values {
-        p = number(to, line, p, names::wide(*value) as u64)?;
-    }
-    Ok(p)
-}
-
-pub fn settled(to: &mut impl Write, line: &[u8], at: usize, got: GotNames) -> io::Result<Told> {
-    match got {
-        GotNames::Settled(n) => {
-            let values = say::numbers(n);
-            let p = ok(to, line, at)?;
-            Ok(accepted(each(to, line, p, &values)?))
-        }
-        GotNames::Refused(r) => refused_at(to, line, at, r),
-    }
-}
-
-pub fn written(
-    to: &mut impl Write,
-    line: &[u8],
-    at: usize,
-    w: Put,
-    out: &[u8],
-) -> io::Result<Told> {
-    match w {
-        Put::Next(n) => {
-            let p = ok(to, line, at)?;
-            Ok(accepted(bytes(to, line, p, front(out, n))?))
-        }
-        Put::Refused(n) => refused(to, line, at, n),
-    }
-}
-
-fn counters(to: &mut impl Write, line: &[u8], at: usize, k: Counters) -> io::Result<usize> {
-    let p = number(to, line, at, k.seqn as u64)?;
-    number(to, line, p, k.bytes)
-}
-
-fn whole(to: &mut impl Write, line: &[u8], at: usize, k: Packet, s: &[u8]) -> io::Result<usize> {
-    let p = bytes(to, line, at, part(s, k.payload))?;
-    let q = number(to, line, p, k.end as u64)?;
-    let e = number(to, line, q, k.taken as u64)?;
-    counters(to, line, e, k.counters)
-}
-
-fn need(to: &mut impl Write, line: &[u8], at: usize, n: usize) -> io::Result<Told> {
-    let p = word(to, line, at, b"need")?;
-    let at = number(to, line, p, n as u64)?;
-    Ok(Told { at, sort: NEED })
-}
-
-pub fn packet(
-    to: &mut impl Write,
-    line: &[u8],
-    at: usize,
-    got: GotPacket,
-    s: &[u8],
-) -> io::Result<Told> {
-    match got {
-        GotPacket::Need(n) => need(to, line, at, n),
-        GotPacket::Whole(k) => {
-            let p = ok(to, line, at)?;
-            Ok(accepted(whole(to, line, p, k, s)?))
-        }
-        GotPacket::Refused(r) => refused_at(to, line, at, r),
-    }
-}
-
-pub fn sealed(
-    to: &mut impl Write,
-    line: &[u8],
-    at: usize,
-    w: Sealed,
-    out: &[u8],
-) -> io::Result<Told> {
-    match w {
-        Sealed::Total(n, k) => {
-            let p = ok(to, line, at)?;
-            let q = bytes(to, line, p, front(out, n))?;
-            Ok(accepted(counters(to, line, q, k)?))
-        }
-        Sealed::Refused(n) => refused(to, line, at, n),
-    }
-}
-
-fn tcp(
-    to: &mut impl Write,
-    line: &[u8],
-    at: usize,
-    t: TcpChannelInfo,
-    body: &[u8],
-) -> io::Result<usize> {
-    let p = bytes(to, line, at, part(body, t.host_to_connect))?;
-    let q = number(to, line, p, t.port_to_connect as u64)?;
-    let s = bytes(to, line, q, part(body, t.originator_address))?;
-    number(to, line, s, t.originator_port as u64)
-}
-
-fn path(
-    to: &mut impl Write,
-    line: &[u8],
-    at: usize,
-    t: StreamLocalChannelInfo,
-    body: &[u8],
-) -> io::Result<usize> {
-    bytes(to, line, at, part(body, t.socket_path))
-}
-
-fn channel_type(
-    to: &mut impl Write,
-    line: &[u8],
-    at: usize,
-    t: ChannelType,
-    body: &[u8],
-) -> io::Result<usize> {
-    match t {
-        ChannelType::Session => word(to, line, at, b" session"),
-        ChannelType::X11 {
-            originator_address,
-            originator_port,
-        } => {
-            let p = word(to, line, at, b" x11")?;
-            let q = bytes(to, line, p, part(body, originator_address))?;
-            number(to, line, q, originator_port as u64)
-        }
-        ChannelType::DirectTcpip(i) => {
-            let p = word(to, line, at, b" direct-tcpip")?;
-            tcp(to, line, p, i, body)
-        }
-        ChannelType::DirectStreamLocal(i) => {
-            let p = word(to, line, at, b" direct-streamlocal")?;
-            path(to, line, p, i, body)
-        }
-        ChannelType::ForwardedTcpIp(i) => {
-            let p = word(to, line, at, b" forwarded-tcpip")?;
-            tcp(to, line, p, i, body)
-        }
-        ChannelType::ForwardedStreamLocal(i) => {
-            let p = word(to, line, at, b" forwarded-streamlocal")?;
-            path(to, line, p, i, body)
-        }
-        ChannelType::AgentForward => word(to, line, at, b" auth-agent"),
-        ChannelType::Unknown { typ, rest } => {
-            let p = word(to, line, at, b" unknown")?;
-            let q = bytes(to, line, p, part(body, typ))?;
-            bytes(to, line, q, part(body, rest))
+impl From<Cause> for Answer<'_> {
+    fn from(cause: Cause) -> Self {
+        Answer::Refused {
+            number: cause.number(),
+            offset: None,
         }
     }
 }
 
-fn message(
-    to: &mut impl Write,
-    line: &[u8],
-    at: usize,
-    m: OpenChannelMessage,
-    body: &[u8],
-) -> io::Result<usize> {
-    let p = number(to, line, at, m.recipient_channel as u64)?;
-    let q = number(to, line, p, m.recipient_window_size as u64)?;
-    let s = number(to, line, q, m.recipient_maximum_packet_size as u64)?;
-    let typ = m.typ;
-    channel_type(to, line, s, typ, body)
-}
-
-pub fn opened(
-    to: &mut impl Write,
-    line: &[u8],
-    at: usize,
-    got: GotOpen,
-    body: &[u8],
-) -> io::Result<Told> {
-    match got {
-        GotOpen::Message(m) => {
-            let p = ok(to, line, at)?;
-            Ok(accepted(message(to, line, p, m, body)?))
+impl From<Refusal> for Answer<'_> {
+    fn from(why: Refusal) -> Self {
+        Answer::Refused {
+            number: why.cause.number(),
+            offset: Some(why.offset),
         }
-        GotOpen::Refused(r) => refused_at(to, line, at, r),
     }
 }
 
-fn confirmation(
-    to: &mut impl Write,
-    line: &[u8],
-    at: usize,
-    m: ChannelOpenConfirmation,
-) -> io::Result<usize> {
-    let p = number(to, line, at, m.recipient_channel as u64)?;
-    let q = number(to, line, p, m.sender_channel as u64)?;
-    let s = number(to, line, q, m.initial_window_size as u64)?;
-    number(to, line, s, m.maximum_packet_size as u64)
-}
-
-pub fn confirmed(
-    to: &mut impl Write,
-    line: &[u8],
-    at: usize,
-    got: GotConfirmation,
-) -> io::Result<Told> {
-    match got {
-        GotConfirmation::Confirmed(m) => {
-            let p = ok(to, line, at)?;
-            Ok(accepted(confirmation(to, line, p, m)?))
+impl fmt::Display for Answer<'_> {
+    fn fmt<W: fmt::Write>(&self, f: &mut fmt::Formatter<W>) -> fmt::Result {
+        match *self {
+            Answer::Accepted(values) => write!(f, "ok{values}"),
+            Answer::Need(n) => write!(f, "need {n}"),
+            Answer::Refused { number, offset } => {
+                write!(f, "no {number}")?;
+                match offset {
+                    Some(offset) => write!(f, " {offset}"),
+                    None => Ok(()),
+                }
+            }
         }
-        GotConfirmation::Refused(r) => refused_at(to, line, at, r),
     }
 }
 
-pub fn shown(to: &mut impl Write, line: &[u8], at: usize, p: Shown, s: &[u8]) -> io::Result<Told> {
-    if p.what == DONE {
-        let place = Place {
-            start: p.start,
-            len: p.len,
-        };
-        let q = ok(to, line, at)?;
-        return Ok(accepted(bytes(to, line, q, part(s, place))?));
+impl fmt::Display for Values<'_> {
+    fn fmt<W: fmt::Write>(&self, f: &mut fmt::Formatter<W>) -> fmt::Result {
+        match *self {
+            Values::Settled(names) => {
+                for value in say::numbers(names) {
+                    write!(f, " {value}")?;
+                }
+                Ok(())
+            }
+            Values::Bytes(x) => write!(f, " {}", Quoted(x)),
+            Values::Whole(p, s) => {
+                write!(f, " {} {} {}", Quoted(part(s, p.payload)), p.end, p.taken)?;
+                write!(f, " {} {}", p.counters.seqn, p.counters.bytes)
+            }
+            Values::Sealed(k, x) => write!(f, " {} {} {}", Quoted(x), k.seqn, k.bytes),
+            Values::Opening(m, body) => {
+                write!(f, " {}", m.recipient_channel)?;
+                write!(f, " {}", m.recipient_window_size)?;
+                write!(f, " {}", m.recipient_maximum_packet_size)?;
+                write!(f, " {}", Typed(m.typ, body))
+            }
+            Values::Confirmed(m) => {
+                write!(f, " {} {}", m.recipient_channel, m.sender_channel)?;
+                write!(f, " {} {}", m.initial_window_size, m.maximum_packet_size)
+            }
+        }
     }
-    refused_at(to, line, at, refuse_at(p.number, p.offset))
+}
+
+// A channel type and its fields.
+#[derive(Clone, Copy, Debug)]
+struct Typed<'a>(ChannelType, &'a [u8]);
+
+impl fmt::Display for Typed<'_> {
+    fn fmt<W: fmt::Write>(&self, f: &mut fmt::Formatter<W>) -> fmt::Result {
+        let body = self.1;
+        match self.0 {
+            ChannelType::Session => write!(f, "session"),
+            ChannelType::X11 {
+                originator_address,
+                originator_port,
+            } => {
+                let address = Quoted(part(body, originator_address));
+                write!(f, "x11 {address} {originator_port}")
+            }
+            ChannelType::DirectTcpip(t) => write!(f, "direct-tcpip {}", Tcp(t, body)),
+            ChannelType::DirectStreamLocal(t) => write!(f, "direct-streamlocal {}", path(t, body)),
+            ChannelType::ForwardedTcpIp(t) => write!(f, "forwarded-tcpip {}", Tcp(t, body)),
+            ChannelType::ForwardedStreamLocal(t) => {
+                write!(f, "forwarded-streamlocal {}", path(t, body))
+            }
+            ChannelType::AgentForward => write!(f, "auth-agent"),
+            ChannelType::Unknown { typ, rest } => {
+                let typ = Quoted(part(body, typ));
+                write!(f, "unknown {typ} {}", Quoted(part(body, rest)))
+            }
+        }
+    }
+}
+
+#[derive(Clone, Copy, Debug)]
+struct Tcp<'a>(TcpChannelInfo, &'a [u8]);
+
+impl fmt::Display for Tcp<'_> {
+    fn fmt<W: fmt::Write>(&self, f: &mut fmt::Formatter<W>) -> fmt::Result {
+        let host = Quoted(part(self.1, self.0.host_to_connect));
+        let originator = Quoted(part(self.1, self.0.originator_address));
+        write!(f, "{host} {}", self.0.port_to_connect)?;
+        write!(f, " {originator} {}", self.0.originator_port)
+    }
+}
+
+fn path(t: StreamLocalChannelInfo, body: &[u8]) -> Quoted<'_> {
+    Quoted(part(body, t.socket_path))
 }

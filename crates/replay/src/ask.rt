@@ -1,317 +1,157 @@
-// The input of a line, read and put to our code. What it answers is held to the recorded answer, which stands at `at`.
-use crate::answers;
-use crate::reader::{GotBytes, GotNumber, Reader, room};
-use crate::tables::{Tables, identities, part, read_tables};
-use crate::tell::Told;
+// The input of a line, read and put to our code: what it answers, or nothing where the input cannot be read. Each function is
+// handed the reader after its name, and hands back the reader after its input.
+use crate::answers::{Answer, Values};
+use crate::functions::Function;
+use crate::reader::Reader;
+use crate::tables::{ROWS, identities, part, read_lists};
+use answer::Cause;
 use channels::OpenChannelMessage;
-use choice::Side;
-use framing::Counters;
+use framing::{Counters, Opened};
 use replies::ChannelOpenConfirmation;
-use std::io;
-use std::io::Write;
-use wire::answers::Place;
+use shapes::DONE;
+use text::front;
+use wire::Place;
 
-// Ours, and the reader after the input.
-#[derive(Clone, Copy)]
-pub enum Said {
-    Ours(Told, Reader),
-    Malformed,
-}
+type Asked<'a> = Option<(Answer<'a>, Reader)>;
 
-// The largest u32.
-const WORD: u64 = 4294967295;
-
-// Both functions are lent the same lists. The last bytes are the cookie to write with, or the payload to read.
-fn kex_with(
-    to: &mut impl Write,
-    line: &[u8],
-    at: usize,
-    writes: bool,
-    side: Side,
-    places: [Place; 10],
-    key_ids: &[u32],
-    cert_ids: &[u32],
-    strict_agreed: bool,
-    last: &[u8],
-    space: &[u8],
-) -> io::Result<Told> {
-    let kexes = part(space, places[0]);
-    let key = part(space, places[1]);
-    let certificate = part(space, places[2]);
-    let cipher = part(space, places[3]);
-    let mac = part(space, places[4]);
-    let compression = part(space, places[5]);
-    let keys = part(space, places[6]);
-    let certs = part(space, places[8]);
-    if writes {
-        let mut out = room();
-        let w = kexinit::write_kex(
-            side,
-            kexes,
-            key,
-            certificate,
-            cipher,
-            mac,
-            compression,
-            keys,
-            key_ids,
-            certs,
-            cert_ids,
-            last,
-            &mut out,
-        );
-        return answers::written(to, line, at, w, &out);
+// A writer's answer, and what it wrote.
+fn written(wrote: Result<usize, Cause>, out: &[u8]) -> Answer<'_> {
+    match wrote {
+        Ok(n) => Answer::Accepted(Values::Bytes(front(out, n))),
+        Err(cause) => cause.into(),
     }
-    let got = negotiation::read_kex(
-        side,
-        kexes,
-        key,
-        certificate,
-        cipher,
-        mac,
-        compression,
-        keys,
-        key_ids,
-        certs,
-        cert_ids,
-        strict_agreed,
-        last,
-    );
-    answers::settled(to, line, at, got)
 }
 
-fn kex(
-    to: &mut impl Write,
-    line: &[u8],
-    at: usize,
-    writes: bool,
-    t: Tables,
-    strict_agreed: bool,
-    last: Place,
-    space: &[u8],
-) -> io::Result<Told> {
-    let places = t.places;
-    let side = t.side;
-    let mut key_ids = [0u32; 8];
-    let mut cert_ids = [0u32; 8];
-    let k = identities(part(space, places[7]), &mut key_ids);
-    let c = identities(part(space, places[9]), &mut cert_ids);
-    kex_with(
-        to,
-        line,
-        at,
-        writes,
-        side,
-        places,
-        &key_ids[..k],
-        &cert_ids[..c],
-        strict_agreed,
-        part(space, last),
-        space,
-    )
-}
-
-fn read_kex(
-    to: &mut impl Write,
-    line: &[u8],
-    r: Reader,
-    space: &[u8],
-    at: usize,
-) -> io::Result<Said> {
-    let t = read_tables(line, r);
-    if !t.whole {
-        return Ok(Said::Malformed);
-    }
-    let n = t.end.number(line);
-    let GotNumber::Number(strict_agreed, r1) = n else {
-        return Ok(Said::Malformed);
-    };
+fn read_kex<'a>(line: &[u8], r: Reader, space: &'a [u8]) -> Asked<'a> {
+    let (lists, r) = read_lists(line, r)?;
+    let (strict_agreed, r) = r.number(line)?;
     if 1 < strict_agreed {
-        return Ok(Said::Malformed);
+        return None;
     }
-    let b = r1.bytes(line);
-    let GotBytes::Bytes(payload, end) = b else {
-        return Ok(Said::Malformed);
+    let (payload, end) = r.bytes(line)?;
+    let mut key_ids = [0u32; ROWS];
+    let mut cert_ids = [0u32; ROWS];
+    let keys = identities(lists.key_ids(space), &mut key_ids);
+    let certs = identities(lists.cert_ids(space), &mut cert_ids);
+    let tables = lists.lend(space, &key_ids[..keys], &cert_ids[..certs]);
+    let got = negotiation::read_kex(&tables, strict_agreed == 1, part(space, payload));
+    let answer = match got {
+        Ok(names) => Answer::Accepted(Values::Settled(names)),
+        Err(why) => why.into(),
     };
-    let told = kex(to, line, at, false, t, strict_agreed == 1, payload, space)?;
-    Ok(Said::Ours(told, end))
+    Some((answer, end))
 }
 
-fn write_kex(
-    to: &mut impl Write,
-    line: &[u8],
-    r: Reader,
-    space: &[u8],
-    at: usize,
-) -> io::Result<Said> {
-    let t = read_tables(line, r);
-    if !t.whole {
-        return Ok(Said::Malformed);
-    }
-    let b = t.end.bytes(line);
-    let GotBytes::Bytes(cookie, end) = b else {
-        return Ok(Said::Malformed);
-    };
-    let told = kex(to, line, at, true, t, false, cookie, space)?;
-    Ok(Said::Ours(told, end))
+fn write_kex<'a>(line: &[u8], r: Reader, space: &[u8], out: &'a mut [u8]) -> Asked<'a> {
+    let (lists, r) = read_lists(line, r)?;
+    let (cookie, end) = r.bytes(line)?;
+    let mut key_ids = [0u32; ROWS];
+    let mut cert_ids = [0u32; ROWS];
+    let keys = identities(lists.key_ids(space), &mut key_ids);
+    let certs = identities(lists.cert_ids(space), &mut cert_ids);
+    let tables = lists.lend(space, &key_ids[..keys], &cert_ids[..certs]);
+    let wrote = kexinit::write_kex(&tables, part(space, cookie), out);
+    Some((written(wrote, out), end))
 }
 
 // A uint32, a number and bytes: what three of the functions are asked with.
-#[derive(Clone, Copy)]
-pub enum GotThree {
-    Three(u32, u64, Place, Reader),
-    Malformed,
+fn three(line: &[u8], r: Reader) -> Option<(u32, u64, Place, Reader)> {
+    let (first, r) = r.number(line)?;
+    let (second, r) = r.number(line)?;
+    let (place, end) = r.bytes(line)?;
+    Some((u32::try_from(first).ok()?, second, place, end))
 }
 
-fn three(line: &[u8], r: Reader) -> GotThree {
-    let a = r.number(line);
-    let GotNumber::Number(first, r1) = a else {
-        return GotThree::Malformed;
+fn frame_read<'a>(line: &[u8], r: Reader, space: &'a [u8]) -> Asked<'a> {
+    let (seqn, bytes, place, end) = three(line, r)?;
+    let s = part(space, place);
+    let answer = match framing::read(s, Counters { seqn, bytes }) {
+        Ok(Opened::Need(n)) => Answer::Need(n),
+        Ok(Opened::Whole(p)) => Answer::Accepted(Values::Whole(p, s)),
+        Err(why) => why.into(),
     };
-    if WORD < first {
-        return GotThree::Malformed;
+    Some((answer, end))
+}
+
+fn frame_write<'a>(line: &[u8], r: Reader, space: &[u8], out: &'a mut [u8]) -> Asked<'a> {
+    let (seqn, bytes, payload, end) = three(line, r)?;
+    let answer = match framing::write(part(space, payload), Counters { seqn, bytes }, out) {
+        Ok(s) => Answer::Accepted(Values::Sealed(s.counters, front(out, s.total))),
+        Err(cause) => cause.into(),
+    };
+    Some((answer, end))
+}
+
+fn open<'a>(line: &[u8], r: Reader, space: &'a [u8]) -> Asked<'a> {
+    let (place, end) = r.bytes(line)?;
+    let body = part(space, place);
+    let answer = match OpenChannelMessage::parse(body) {
+        Ok(m) => Answer::Accepted(Values::Opening(m, body)),
+        Err(why) => why.into(),
+    };
+    Some((answer, end))
+}
+
+fn confirmation<'a>(line: &[u8], r: Reader, space: &[u8]) -> Asked<'a> {
+    let (body, end) = r.bytes(line)?;
+    let answer = match ChannelOpenConfirmation::parse(part(space, body)) {
+        Ok(m) => Answer::Accepted(Values::Confirmed(m)),
+        Err(why) => why.into(),
+    };
+    Some((answer, end))
+}
+
+fn fail<'a>(line: &[u8], r: Reader, space: &[u8], out: &'a mut [u8]) -> Asked<'a> {
+    let (recipient, reason, text, end) = three(line, r)?;
+    let reason = u8::try_from(reason).ok()?;
+    let wrote = replies::fail(recipient, reason, part(space, text), out);
+    Some((written(wrote, out), end))
+}
+
+fn unknown_type<'a>(line: &[u8], r: Reader, out: &'a mut [u8]) -> Asked<'a> {
+    let (recipient, end) = r.number(line)?;
+    let recipient = u32::try_from(recipient).ok()?;
+    let wrote = replies::unknown_type(recipient, out);
+    Some((written(wrote, out), end))
+}
+
+fn show<'a>(line: &[u8], r: Reader, space: &'a [u8]) -> Asked<'a> {
+    let (place, r) = r.bytes(line)?;
+    let (start, r) = r.number(line)?;
+    let (len, end) = r.number(line)?;
+    let s = part(space, place);
+    let start = start as usize;
+    let len = len as usize;
+    let p = shapes::judge_place(s, Place { start, len });
+    if p.what == DONE {
+        let (start, len) = (p.start, p.len);
+        let shown = part(s, Place { start, len });
+        return Some((Answer::Accepted(Values::Bytes(shown)), end));
     }
-    let b = r1.number(line);
-    let GotNumber::Number(second, r2) = b else {
-        return GotThree::Malformed;
+    let refused = Answer::Refused {
+        number: p.number,
+        offset: Some(p.offset),
     };
-    let x = r2.bytes(line);
-    let GotBytes::Bytes(p, end) = x else {
-        return GotThree::Malformed;
-    };
-    GotThree::Three(first as u32, second, p, end)
+    Some((refused, end))
 }
 
-fn frame_read(
-    to: &mut impl Write,
+// Our code's answer to the input, which stands from the reader on, and the reader after it.
+pub fn ask<'a>(
+    function: Function,
     line: &[u8],
     r: Reader,
-    space: &[u8],
-    at: usize,
-) -> io::Result<Said> {
-    let x = three(line, r);
-    let GotThree::Three(seqn, bytes, p, end) = x else {
-        return Ok(Said::Malformed);
-    };
-    let s = part(space, p);
-    let got = framing::read(s, Counters { seqn, bytes });
-    let told = answers::packet(to, line, at, got, s)?;
-    Ok(Said::Ours(told, end))
-}
-
-fn frame_write(
-    to: &mut impl Write,
-    line: &[u8],
-    r: Reader,
-    space: &[u8],
-    at: usize,
-) -> io::Result<Said> {
-    let x = three(line, r);
-    let GotThree::Three(seqn, bytes, p, end) = x else {
-        return Ok(Said::Malformed);
-    };
-    let mut out = room();
-    let w = framing::write(part(space, p), Counters { seqn, bytes }, &mut out);
-    let told = answers::sealed(to, line, at, w, &out)?;
-    Ok(Said::Ours(told, end))
-}
-
-fn open(to: &mut impl Write, line: &[u8], r: Reader, space: &[u8], at: usize) -> io::Result<Said> {
-    let x = r.bytes(line);
-    let GotBytes::Bytes(p, end) = x else {
-        return Ok(Said::Malformed);
-    };
-    let body = part(space, p);
-    let got = OpenChannelMessage::parse(body);
-    let told = answers::opened(to, line, at, got, body)?;
-    Ok(Said::Ours(told, end))
-}
-
-fn confirmation(
-    to: &mut impl Write,
-    line: &[u8],
-    r: Reader,
-    space: &[u8],
-    at: usize,
-) -> io::Result<Said> {
-    let x = r.bytes(line);
-    let GotBytes::Bytes(p, end) = x else {
-        return Ok(Said::Malformed);
-    };
-    let got = ChannelOpenConfirmation::parse(part(space, p));
-    let told = answers::confirmed(to, line, at, got)?;
-    Ok(Said::Ours(told, end))
-}
-
-fn fail(to: &mut impl Write, line: &[u8], r: Reader, space: &[u8], at: usize) -> io::Result<Said> {
-    let x = three(line, r);
-    let GotThree::Three(recipient, reason, p, end) = x else {
-        return Ok(Said::Malformed);
-    };
-    if 255 < reason {
-        return Ok(Said::Malformed);
-    }
-    let mut out = room();
-    let w = replies::fail(recipient, reason as u8, part(space, p), &mut out);
-    let told = answers::written(to, line, at, w, &out)?;
-    Ok(Said::Ours(told, end))
-}
-
-fn unknown_type(to: &mut impl Write, line: &[u8], r: Reader, at: usize) -> io::Result<Said> {
-    let a = r.number(line);
-    let GotNumber::Number(recipient, end) = a else {
-        return Ok(Said::Malformed);
-    };
-    if WORD < recipient {
-        return Ok(Said::Malformed);
-    }
-    let mut out = room();
-    let w = replies::unknown_type(recipient as u32, &mut out);
-    let told = answers::written(to, line, at, w, &out)?;
-    Ok(Said::Ours(told, end))
-}
-
-fn show(to: &mut impl Write, line: &[u8], r: Reader, space: &[u8], at: usize) -> io::Result<Said> {
-    let x = r.bytes(line);
-    let GotBytes::Bytes(p, r1) = x else {
-        return Ok(Said::Malformed);
-    };
-    let a = r1.number(line);
-    let GotNumber::Number(start, r2) = a else {
-        return Ok(Said::Malformed);
-    };
-    let b = r2.number(line);
-    let GotNumber::Number(len, end) = b else {
-        return Ok(Said::Malformed);
-    };
-    let s = part(space, p);
-    let place = Place {
-        start: start as usize,
-        len: len as usize,
-    };
-    let told = answers::shown(to, line, at, shapes::judge_place(s, place), s)?;
-    Ok(Said::Ours(told, end))
-}
-
-// By the function's place in the report.
-pub fn ask(
-    to: &mut impl Write,
-    function: usize,
-    line: &[u8],
-    r: Reader,
-    space: &[u8],
-    at: usize,
-) -> io::Result<Said> {
+    space: &'a [u8],
+    out: &'a mut [u8],
+) -> Asked<'a> {
     match function {
-        0 => read_kex(to, line, r, space, at),
-        1 => write_kex(to, line, r, space, at),
-        2 => frame_read(to, line, r, space, at),
-        3 => frame_write(to, line, r, space, at),
-        4 => open(to, line, r, space, at),
-        5 => confirmation(to, line, r, space, at),
-        6 => fail(to, line, r, space, at),
-        7 => unknown_type(to, line, r, at),
-        8 => show(to, line, r, space, at),
-        _ => Ok(Said::Malformed),
+        Function::ReadKex => read_kex(line, r, space),
+        Function::WriteKex => write_kex(line, r, space, out),
+        Function::FrameRead => frame_read(line, r, space),
+        Function::FrameWrite => frame_write(line, r, space, out),
+        Function::Open => open(line, r, space),
+        Function::Confirmation => confirmation(line, r, space),
+        Function::Fail => fail(line, r, space, out),
+        Function::UnknownType => unknown_type(line, r, out),
+        Function::Show => show(line, r, space),
     }
 }

@@ -4,22 +4,24 @@
 
 mod answers;
 mod ask;
+mod functions;
 mod reader;
 mod report;
 mod tables;
 mod tell;
 
-use ask::Said;
-use reader::{Reader, room, skip, spread, until};
-use report::{CELLS, NO_CELL};
+use answers::Answer;
+use ask::ask;
+use functions::Function;
+use reader::{Reader, room, spread};
+use report::Report;
 use std::fs::File;
 use std::io;
 use std::io::Write;
 use std::os::unix::fs::FileExt;
 use std::rt::Env;
-use tell::{ALOUD, held};
+use tell::agrees;
 use text::front;
-use wire::answers::Cursor;
 
 // As much of the list as is read for a line: a longer line cannot be read.
 const PIECE: usize = 65536;
@@ -27,88 +29,68 @@ const PIECE: usize = 65536;
 // The longest name of the list.
 const PATH: usize = 4096;
 
-// What a line came to: the count that its answer belongs to, and 1 where it differs.
-#[derive(Clone, Copy)]
-struct Judged {
-    cell: usize,
-    wrong: u64,
-}
-
-// The same, and how many bytes the line took: 0 where there is none any more.
-#[derive(Clone, Copy)]
-struct Turn {
-    judged: Judged,
-    taken: u64,
-}
-
-// Where the recorded answer starts, after ` = `, which stands in no word; 0 where there is none.
-fn answer_at(line: &[u8]) -> usize {
+// The input, up to its last word's space, and the recorded answer: on either side of ` = `, which stands in no word.
+fn split(line: &[u8]) -> Option<(&[u8], &[u8])> {
     for i in 0..line.len() {
-        let at = held(line, i, b" = ");
-        if at <= line.len() {
-            return at;
+        if let Some(recorded) = line[i..].strip_prefix(b" = ") {
+            return Some((&line[..i + 1], recorded));
         }
     }
-    0
+    None
 }
 
-fn unread(to: &mut impl Write, number: u64) -> io::Result<Judged> {
-    report::malformed(to, number)?;
-    Ok(Judged {
-        cell: NO_CELL,
-        wrong: 1,
-    })
+// The function that the input's first word names, and the reader after it.
+fn named(input: &[u8]) -> Option<(Function, Reader)> {
+    let end = input.iter().position(|b| *b == b' ')?;
+    let function = Function::of_name(front(input, end))?;
+    Some((
+        function,
+        Reader {
+            at: end.checked_add(1)?,
+            used: 0,
+        },
+    ))
 }
 
-// An answer that is not the recorded one is asked for once more, and told aloud.
-fn differs(
-    to: &mut impl Write,
-    line: &[u8],
-    number: u64,
-    space: &[u8],
-    function: usize,
-    start: Reader,
-    at: usize,
-) -> io::Result<()> {
-    report::differs(to, number, Cursor { at }.rest(line))?;
-    ask::ask(to, function, line, start, space, ALOUD)?;
-    report::words(to, b"\n")
-}
-
-fn judge(to: &mut impl Write, line: &[u8], number: u64, space: &[u8]) -> io::Result<Judged> {
-    let end = until(line, 0, 32);
-    let function = report::place(front(line, end));
-    let start = Reader {
-        at: skip(line, end, 32),
-        used: 0,
-    };
-    let at = answer_at(line);
-    let said = ask::ask(to, function, line, start, space, at)?;
-    let Said::Ours(told, r) = said else {
-        return unread(to, number);
-    };
-    if held(line, r.at, b"= ") != at {
-        return unread(to, number);
+// What our code answers to a line's input, all of which was read, and what was recorded.
+fn answered<'a>(
+    line: &'a [u8],
+    space: &'a [u8],
+    out: &'a mut [u8],
+) -> Option<(Function, Answer<'a>, &'a [u8])> {
+    let (input, recorded) = split(line)?;
+    let (function, start) = named(input)?;
+    let (answer, end) = ask(function, input, start, space, out)?;
+    if end.at == input.len() {
+        return Some((function, answer, recorded));
     }
-    let cell = report::cell_of(function, told.sort);
-    if told.at == line.len() {
-        return Ok(Judged { cell, wrong: 0 });
-    }
-    differs(to, line, number, space, function, start, at)?;
-    Ok(Judged { cell, wrong: 1 })
+    None
+}
+
+fn unread(to: &mut impl Write, number: u64, report: &mut Report) -> io::Result<()> {
+    report.wrong();
+    writeln!(to, "line {number} cannot be read")
 }
 
 // A line that starts with `#` says what follows.
-fn answered(to: &mut impl Write, line: &[u8], number: u64) -> io::Result<Judged> {
-    if skip(line, 0, 35) != 0 {
-        return Ok(Judged {
-            cell: NO_CELL,
-            wrong: 0,
-        });
+fn judge(to: &mut impl Write, line: &[u8], number: u64, report: &mut Report) -> io::Result<()> {
+    if line.starts_with(b"#") {
+        return Ok(());
     }
     let mut space = room();
+    let mut out = room();
     spread(line, &mut space);
-    judge(to, line, number, &space)
+    let Some((function, answer, recorded)) = answered(line, &space, &mut out) else {
+        return unread(to, number, report);
+    };
+    report.count(function, &answer);
+    if agrees(recorded, &answer) {
+        return Ok(());
+    }
+    report.wrong();
+    write!(to, "line {number}: recorded ")?;
+    to.write_all(recorded)?;
+    writeln!(to, ", ours {answer}")
 }
 
 // How many bytes of the file stand in the piece: none where it cannot be read.
@@ -116,65 +98,47 @@ fn read_at(file: &File, piece: &mut [u8], offset: u64) -> usize {
     if 9223372036854775807 < offset {
         return 0;
     }
-    match file.read_at(piece, offset) {
-        Ok(n) => n,
-        Err(_) => 0,
-    }
+    file.read_at(piece, offset).unwrap_or(0)
 }
 
-// What is left where no whole line is: nothing, or a line that has no end.
-fn left(to: &mut impl Write, n: usize, number: u64) -> io::Result<Turn> {
-    if n == 0 {
-        return Ok(Turn {
-            judged: Judged {
-                cell: NO_CELL,
-                wrong: 0,
-            },
-            taken: 0,
-        });
-    }
-    Ok(Turn {
-        judged: unread(to, number)?,
-        taken: 0,
-    })
-}
-
-// The line that starts at the offset.
-fn line_at(to: &mut impl Write, file: &File, offset: u64, number: u64) -> io::Result<Turn> {
+// The line that starts at the offset. Where the next one does, if any: what is left where no whole line is is nothing, or a
+// line that has no end.
+fn line_at(
+    to: &mut impl Write,
+    file: &File,
+    offset: u64,
+    number: u64,
+    report: &mut Report,
+) -> io::Result<Option<u64>> {
     let mut piece = [0u8; PIECE];
     let n = read_at(file, &mut piece, offset);
-    let end = until(front(&piece, n), 0, 10);
-    if end == n {
-        return left(to, n, number);
-    }
-    Ok(Turn {
-        judged: answered(to, front(&piece, end), number)?,
-        taken: (end as u64).wrapping_add(1),
-    })
+    let read = front(&piece, n);
+    let Some(end) = read.iter().position(|b| *b == b'\n') else {
+        if n != 0 {
+            unread(to, number, report)?;
+        }
+        return Ok(None);
+    };
+    judge(to, front(read, end), number, report)?;
+    Ok(offset.checked_add(end as u64 + 1))
 }
 
-// How many lines differ. Nothing says that a file ends, so the lines are counted.
-fn replay(to: &mut impl Write, file: &File, counts: &mut [u64; CELLS]) -> io::Result<u64> {
-    let mut wrong: u64 = 0;
+// Nothing says that a file ends, so the lines are counted.
+fn replay(to: &mut impl Write, file: &File, report: &mut Report) -> io::Result<()> {
     let mut offset: u64 = 0;
     for number in 1..u64::MAX {
-        let t = line_at(to, file, offset, number)?;
-        let j = t.judged;
-        report::count(counts, j.cell);
-        wrong = wrong.wrapping_add(j.wrong);
-        if t.taken == 0 {
-            return Ok(wrong);
+        match line_at(to, file, offset, number, report)? {
+            Some(next) => offset = next,
+            None => return Ok(()),
         }
-        offset = offset.wrapping_add(t.taken);
     }
-    Ok(wrong)
+    Ok(())
 }
 
 fn reports(to: &mut impl Write, file: &File) -> io::Result<()> {
-    let mut counts = [0u64; CELLS];
-    let wrong = replay(to, file, &mut counts)?;
-    report::table(to, &counts)?;
-    report::end(to, wrong)
+    let mut report = Report::new();
+    replay(to, file, &mut report)?;
+    write!(to, "{report}")
 }
 
 // The file that the first argument names, where it can be opened, which it is by a name that is UTF-8.
@@ -189,6 +153,6 @@ fn main(rt: HostRuntime) -> io::Result<()> {
     let mut out = io::writer(&rt);
     match list(&rt) {
         Some(file) => reports(&mut out, &file),
-        None => report::words(&mut out, b"the list cannot be opened\n"),
+        None => writeln!(out, "the list cannot be opened"),
     }
 }

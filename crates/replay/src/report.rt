@@ -1,141 +1,97 @@
-// What is written: each line that differs, and how many answers of each function and sort were replayed.
-use names::Row;
-use std::io;
-use std::io::Write;
+// What is counted and written: how many answers of each function and sort were replayed, and how many lines differ.
+use crate::answers::Answer;
+use crate::functions::{FUNCTIONS, Function};
+use std::fmt;
 
-const FUNCTIONS: usize = 9;
+// A refusal's numbers, and 0, which none has.
+const NUMBERS: usize = 15;
 
-// Accepted, a refusal's number, or "need".
-const SORTS: usize = 16;
-
-// The counts: a row for each function, which has the sum and then each sort; and the sum of all.
-const COLUMNS: usize = 17;
-
-const TOTAL: usize = 153;
-
-pub const CELLS: usize = 154;
-
-// For what is not counted.
-pub const NO_CELL: usize = CELLS;
-
-pub fn words(to: &mut impl Write, s: &[u8]) -> io::Result<()> {
-    to.write_all(s)
+// How often a function gave each sort of answer.
+#[derive(Clone, Copy, Debug)]
+struct Counts {
+    all: u64,
+    accepted: u64,
+    refused: [u64; NUMBERS],
+    need: u64,
 }
 
-pub fn value(to: &mut impl Write, s: &[u8], n: u64) -> io::Result<()> {
-    words(to, s)?;
-    write!(to, "{n}")
+#[derive(Debug, Drop)]
+pub struct Report {
+    of: [Counts; 9],
+    wrong: u64,
 }
 
-pub fn malformed(to: &mut impl Write, number: u64) -> io::Result<()> {
-    value(to, b"line ", number)?;
-    words(to, b" cannot be read\n")
-}
-
-// Ours is written after it.
-pub fn differs(to: &mut impl Write, number: u64, recorded: &[u8]) -> io::Result<()> {
-    value(to, b"line ", number)?;
-    words(to, b": recorded ")?;
-    words(to, recorded)?;
-    words(to, b", ours ")
-}
-
-// The functions' names as columns, in the report's order: looked up and spelled as the tables' names are.
-const SPELLINGS: [u8; 74] = *b"\
-    read_kex\
-    write_kex\
-    frame_read\
-    frame_write\
-    open\
-    confirmation\
-    fail\
-    unknown_type\
-    show\
-";
-
-const STARTS: [u16; FUNCTIONS] = [0, 8, 17, 27, 38, 42, 54, 58, 70];
-
-const LENGTHS: [u8; FUNCTIONS] = [8, 9, 10, 11, 4, 12, 4, 12, 4];
-
-// The function's place in the report, FUNCTIONS where there is none of the name.
-pub fn place(name: &[u8]) -> usize {
-    let at = names::find(&SPELLINGS, &STARTS, &LENGTHS, 0, FUNCTIONS, name);
-    match at {
-        Row::At(n) => n,
-        Row::Nowhere => FUNCTIONS,
-    }
-}
-
-fn name(to: &mut impl Write, function: usize) -> io::Result<()> {
-    words(to, names::spelling(&SPELLINGS, &STARTS, &LENGTHS, function))
-}
-
-pub fn cell_of(function: usize, sort: u8) -> usize {
-    let s = names::wide(sort);
-    if function < FUNCTIONS && s < SORTS {
-        return function * COLUMNS + 1 + s;
-    }
-    NO_CELL
-}
-
-fn one_more(counts: &mut [u64; CELLS], cell: usize) {
-    if cell < CELLS {
-        counts[cell] = counts[cell].wrapping_add(1);
-    }
-}
-
-pub fn count(counts: &mut [u64; CELLS], cell: usize) {
-    if cell < TOTAL {
-        one_more(counts, cell);
-        one_more(counts, cell - cell % COLUMNS);
-        one_more(counts, TOTAL);
-    }
-}
-
-fn heading(to: &mut impl Write, function: usize, n: u64) -> io::Result<()> {
-    name(to, function)?;
-    value(to, b" ", n)?;
-    words(to, b" answers:")
-}
-
-fn answers(to: &mut impl Write, sort: usize, n: u64) -> io::Result<()> {
-    value(to, b" ", n)?;
-    match sort {
-        0 => words(to, b" ok;"),
-        15 => words(to, b" need;"),
-        _ => {
-            value(to, b" no ", sort as u64)?;
-            words(to, b";")
+impl Counts {
+    fn count(&mut self, answer: &Answer) {
+        self.all = self.all.saturating_add(1);
+        match *answer {
+            Answer::Accepted(_) => self.accepted = self.accepted.saturating_add(1),
+            Answer::Need(_) => self.need = self.need.saturating_add(1),
+            Answer::Refused { number, offset: _ } => {
+                if let Some(n) = self.refused.get_mut(usize::from(number)) {
+                    *n = n.saturating_add(1);
+                }
+            }
         }
     }
 }
 
-fn cell(to: &mut impl Write, row: usize, column: usize, n: u64) -> io::Result<()> {
-    if column == 0 {
-        heading(to, row, n)?;
-    } else if n != 0 {
-        answers(to, column - 1, n)?;
+impl fmt::Display for Counts {
+    fn fmt<W: fmt::Write>(&self, f: &mut fmt::Formatter<W>) -> fmt::Result {
+        write!(f, "{} answers:", self.all)?;
+        if self.accepted != 0 {
+            write!(f, " {} ok;", self.accepted)?;
+        }
+        for (number, n) in self.refused.iter().enumerate() {
+            if *n != 0 {
+                write!(f, " {n} no {number};")?;
+            }
+        }
+        if self.need != 0 {
+            write!(f, " {} need;", self.need)?;
+        }
+        Ok(())
     }
-    if column == SORTS {
-        words(to, b"\n")?;
-    }
-    Ok(())
 }
 
-// A line for each function: how often it gave each sort of answer.
-pub fn table(to: &mut impl Write, counts: &[u64; CELLS]) -> io::Result<()> {
-    for i in 0..TOTAL {
-        cell(to, i / COLUMNS, i % COLUMNS, counts[i])?;
+impl Report {
+    pub fn new() -> Report {
+        let none = Counts {
+            all: 0,
+            accepted: 0,
+            refused: [0; NUMBERS],
+            need: 0,
+        };
+        Report {
+            of: [none; 9],
+            wrong: 0,
+        }
     }
-    value(to, b"all ", counts[TOTAL])?;
-    words(to, b" answers\n")
+
+    pub fn count(&mut self, function: Function, answer: &Answer) {
+        if let Some(counts) = self.of.get_mut(function as usize) {
+            counts.count(answer);
+        }
+    }
+
+    // A line that differs, or cannot be read.
+    pub fn wrong(&mut self) {
+        self.wrong = self.wrong.saturating_add(1);
+    }
 }
 
-pub fn end(to: &mut impl Write, wrong: u64) -> io::Result<()> {
-    if wrong == 0 {
-        words(to, b"all agreed\n")
-    } else {
-        value(to, b"lines that differ: ", wrong)?;
-        words(to, b"\n")
+impl fmt::Display for Report {
+    fn fmt<W: fmt::Write>(&self, f: &mut fmt::Formatter<W>) -> fmt::Result {
+        let mut all: u64 = 0;
+        for (function, counts) in FUNCTIONS.iter().zip(&self.of) {
+            writeln!(f, "{} {counts}", function.name())?;
+            all = all.saturating_add(counts.all);
+        }
+        writeln!(f, "all {all} answers")?;
+        if self.wrong == 0 {
+            writeln!(f, "all agreed")
+        } else {
+            writeln!(f, "lines that differ: {}", self.wrong)
+        }
     }
 }
