@@ -6,7 +6,7 @@ ghost use Rattle.answer.specs.Refusal.{number, IsAtFront};
 
 // Why an input or a table is refused: the numbers of document 01 ("Numbers a refusal carries"), named as
 // include/harupesat.h names them. A writer, which refuses nowhere, answers with the cause alone.
-#[derive(Clone, Copy, Debug, PartialEq, Eq)]
+#[derive(Clone, Copy, Debug, PartialEq, Eq, PartialOrd, Ord)]
 pub enum Cause {
     TooLong = 1,
     PastEnd = 2,

@@ -17,6 +17,7 @@ use judging::MOST_ENTRIES;
 pub const MOST_OWN: usize = 2 * MOST_ENTRIES;
 
 // The kind of an RSA key, and its first name's number.
+// Kept: a key row's kind is a number, as C lends it (harupesat_read_kex).
 const RSA: u8 = 4;
 
 // Rows of the name table, or numbers of a kind, in the value itself: nothing is allocated.

@@ -7,7 +7,7 @@ ghost use Rattle.wire.specs.Shown.{shown, shown_part};
 ghost use Rattle.framing.specs.Clear.{padding_of, packet_at, whole_packet, read_packet};
 ghost use Rattle.framing.specs.Answers.{got_packet};
 
-use crate::{Counters, Opened, Packet, judge_length, judge_padding};
+use crate::{Counters, Opened, PADDING_AT, Packet, judge_length, judge_padding};
 use answer::{Cause, Refusal};
 use wire::{Cursor, Place};
 
@@ -20,7 +20,7 @@ fn padding_of(s: &[u8], len: usize) -> usize
     if len == 0 {
         return 0;
     }
-    usize::from(s[4])
+    usize::from(s[PADDING_AT])
 }
 
 // What is left of a packet without its padding has the byte that says the padding, unless it is empty. The payload starts at

@@ -8,7 +8,7 @@ ghost use Rattle.put.specs.Written.{buffer};
 ghost use Rattle.framing.specs.Clear.{padding_length, packet_length, frame, packet_of};
 ghost use Rattle.framing.specs.Answers.{wrote, sealing};
 
-use crate::{Counters, Sealed, judge_length};
+use crate::{Counters, PADDING_AT, Sealed, judge_length};
 use answer::Cause;
 
 const BLOCK_SIZE: usize = 8;
@@ -34,8 +34,8 @@ fn seal(payload: &[u8], padding: u8, len: u32, out: &mut [u8])
     ensures { out.new ≡ sets out.old 0 (frame payload.now) }
 {
     let end = 5 + payload.len();
-    out[..4].copy_from_slice(&len.to_be_bytes());
-    out[4] = padding;
+    out[..PADDING_AT].copy_from_slice(&len.to_be_bytes());
+    out[PADDING_AT] = padding;
     out[5..end].copy_from_slice(payload);
     out[end..end + usize::from(padding)].fill(0);
 }

@@ -8,8 +8,9 @@ use choice::Side;
 use framing::{Counters, Opened};
 use judging::Tables;
 use negotiation::Names;
+use preferred::default_tables;
 use preferred::defaults::CIPHER;
-use say::{Told, default_tables};
+use say::Told;
 use std::io::Write;
 use std::{fmt, io};
 use text::front;
@@ -125,11 +126,11 @@ fn compared(a: Result<Names, Unsettled>, b: Result<Names, Unsettled>) -> &'stati
 fn exchange(to: &mut impl Write, client_cipher: &[u8], server_cipher: &[u8]) -> io::Result<()> {
     let client = Tables {
         cipher: client_cipher,
-        ..default_tables(Side::Client, &[], &[])
+        ..default_tables(Side::Client, &[], &[], &[], &[])
     };
     let server = Tables {
         cipher: server_cipher,
-        ..default_tables(Side::Server, &ED25519, &IDS)
+        ..default_tables(Side::Server, &ED25519, &IDS, &[], &[])
     };
     let mut from_client = [0u8; ROOM];
     let mut from_server = [0u8; ROOM];

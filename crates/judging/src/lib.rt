@@ -26,7 +26,8 @@ const KINDS: usize = 5;
 
 // The local tables, all lent: six preference lists of numbers, and a server's two row tables (document 01, "Names and
 // their numbers").
-#[derive(Clone, Copy)]
+// Kept: lists are bytes, and a row table is two columns, as C lends them (harupesat_read_kex, harupesat_write_kex).
+#[derive(Clone, Copy, Debug, PartialEq, Eq)]
 pub struct Tables<'a> {
     pub side: Side,
     pub kex: &'a [u8],

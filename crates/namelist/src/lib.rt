@@ -73,6 +73,7 @@ pub fn name_list(c: Cursor, s: &[u8]) -> Result<(Place, Cursor), Refusal>
     if MAX_NAME_LIST_BYTES < p.len {
         return Err(Cause::PastEnd.at(c.at));
     }
+    // Kept: a match, since of `map_err` with a closure the proof did not close.
     match judge(&s[p.start..next.at]) {
         Ok(()) => Ok((p, next)),
         Err(cause) => Err(cause.at(c.at)),

@@ -13,7 +13,8 @@ use super::tables;
 use answer::Cause;
 use put::put_bytes;
 
-#[derive(Clone, Copy)]
+// Kept: three columns, as document 01 has them ("constant tables of spellings, starts and lengths"); `row_name` says what a row is.
+#[derive(Clone, Copy, Debug, PartialEq, Eq)]
 pub struct Columns<'a> {
     pub spellings: &'a [u8],
     pub starts: &'a [u16],

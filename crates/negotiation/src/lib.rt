@@ -18,6 +18,7 @@ pub struct Flags {
 }
 
 // What was settled: `Names` of the Rust.
+// Kept: the flag beside the key's number, as document 01 wants the record ("Forms") and C has it (harupesat_names).
 #[derive(Clone, Copy, Debug, PartialEq, Eq)]
 pub struct Names {
     pub kex: KexId,

@@ -8,7 +8,8 @@ ghost use Rattle.std.specs.Prelude.{◌≤◌, length};
 use choice::Side;
 use framing::{Counters, Opened, Packet};
 use judging::Tables;
-use say::{Told, default_tables};
+use preferred::default_tables;
+use say::Told;
 use std::env::FillError;
 use std::fs::File;
 use std::io;
@@ -38,9 +39,9 @@ fn settles(to: &mut impl Write, tables: &Tables, payload: &[u8]) -> io::Result<(
 fn opens(to: &mut impl Write, s: &[u8], p: Packet) -> io::Result<()> {
     let payload = p.payload(s).unwrap_or(&[]);
     write!(to, " payload {}\n  our server", payload.len())?;
-    settles(to, &default_tables(Side::Server, &KINDS, &IDS), payload)?;
+    settles(to, &default_tables(Side::Server, &KINDS, &IDS, &[], &[]), payload)?;
     write!(to, "\n  our client")?;
-    settles(to, &default_tables(Side::Client, &[], &[]), payload)
+    settles(to, &default_tables(Side::Client, &[], &[], &[], &[]), payload)
 }
 
 fn reads(to: &mut impl Write, s: &[u8]) -> io::Result<()> {

@@ -18,11 +18,10 @@ use names::Columns;
 use wire::Cursor;
 
 // A guess is about kex and key alone: no other list is looked at for it.
-// Kept: by number, as the definition `guessed` says it of every number.
 fn first_of(names: &Columns, no: Cause, own: &[u8], list: &[u8]) -> bool
     ensures { result ≡ (guessed (number_of no) && first_both (spells_by names.now) own.now (cut list.now)) }
 {
-    no.number() <= Cause::NoKey.number() && both_first(names, own, list)
+    no <= Cause::NoKey && both_first(names, own, list)
 }
 
 // A list without a shared name, where the rule asks for one, is refused by `no` where it starts.

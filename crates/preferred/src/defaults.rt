@@ -4,6 +4,7 @@
 // lent slices and tables of numbers.
 ghost use Rattle.std.specs.Prelude.{◌≡◌};
 ghost use Rattle.answer.specs.Answer.{answered};
+ghost use Rattle.judging.specs.Tables.{lent};
 ghost use Rattle.preferred.specs.Own.{own_of};
 ghost use Rattle.preferred.specs.Defaults.{defaults};
 
@@ -23,17 +24,17 @@ pub const MAC: [u8; 4] = [1, 2, 3, 4];
 
 pub const COMPRESSION: [u8; 1] = [0];
 
-// The own lists of a side that lends these, and its row tables.
-pub fn default_lists(
+// The tables of a side that lends these, and its row tables.
+pub fn default_tables<'a>(
     side: Side,
-    key_kinds: &[u8],
-    key_ids: &[u32],
-    cert_kinds: &[u8],
-    cert_ids: &[u32],
-) -> Result<Own, Cause>
-    ensures { answered result ≡ own_of (defaults side key_kinds.now key_ids.now cert_kinds.now cert_ids.now) }
+    key_kinds: &'a [u8],
+    key_ids: &'a [u32],
+    cert_kinds: &'a [u8],
+    cert_ids: &'a [u32],
+) -> Tables<'a>
+    ensures { lent result ≡ defaults side key_kinds.now key_ids.now cert_kinds.now cert_ids.now }
 {
-    own_lists(&Tables {
+    Tables {
         side,
         kex: &KEX,
         key: &KEY,
@@ -45,5 +46,18 @@ pub fn default_lists(
         key_ids,
         cert_kinds,
         cert_ids,
-    })
+    }
+}
+
+// The own lists of such a side.
+pub fn default_lists(
+    side: Side,
+    key_kinds: &[u8],
+    key_ids: &[u32],
+    cert_kinds: &[u8],
+    cert_ids: &[u32],
+) -> Result<Own, Cause>
+    ensures { answered result ≡ own_of (defaults side key_kinds.now key_ids.now cert_kinds.now cert_ids.now) }
+{
+    own_lists(&default_tables(side, key_kinds, key_ids, cert_kinds, cert_ids))
 }

@@ -8,12 +8,12 @@
 pub mod defaults;
 mod make;
 
-pub use defaults::default_lists;
+pub use defaults::{default_lists, default_tables};
 use filters::RowList;
 pub use make::own_lists;
 
 // A side's own lists, made of tables that were judged.
-#[derive(Drop)]
+#[derive(Clone, Debug, Drop)]
 pub struct Own {
     pub kex_written: RowList,
     pub kex_chosen: RowList,

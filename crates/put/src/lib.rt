@@ -22,6 +22,7 @@ fn lacks(len: usize, at: usize, need: usize) -> bool
 }
 
 // Where the next byte goes, or why not: a writer is no reader, and refuses nowhere.
+// Kept: the output and the position are two, since each public writer promises of both, `written` and `buffer` of what was lent.
 pub fn put_bytes(out: &mut [u8], at: usize, x: &[u8]) -> Result<usize, Cause>
     ensures answer { put result ≡ written out.old at (done x.now) }
     ensures bytes { out.new ≡ buffer out.old at (done x.now) }

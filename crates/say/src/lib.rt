@@ -1,4 +1,4 @@
-// What the programs share: the default tables, what was settled, in words and in numbers, and a refusal in words.
+// What the programs share: what was settled, in words and in numbers, and a refusal in words.
 #![tactic(auto)]
 
 ghost use Rattle.std.specs.Prelude.{[], ◌∷◌, ◌≡◌};
@@ -6,42 +6,17 @@ ghost use Rattle.answer.specs.Answer.{done};
 ghost use Rattle.names.specs.Spelled.{spelled};
 ghost use Rattle.put.specs.Runs.{ended, filled};
 ghost use Rattle.put.proofs.RunLaws.{Ran};
-ghost use Rattle.judging.specs.Tables.{lent};
-ghost use Rattle.preferred.specs.Defaults.{defaults};
 ghost use Rattle.say.specs.Words.{numbers_of, key_kind, item, yes_or_no, flag_item, words};
 
 use answer::Refusal;
-use choice::Side;
-use judging::Tables;
 use names::{Kind, put_name};
 use negotiation::Names;
-use preferred::defaults::{CIPHER, COMPRESSION, KEX, KEY, MAC};
 use put::{after, put_bytes};
-use std::fmt;
-use std::io;
 use std::io::Write;
+use std::{fmt, io};
 use text::front;
 
-// The default lists of a side that has these key rows, and no certificate.
-pub fn default_tables<'a>(side: Side, key_kinds: &'a [u8], key_ids: &'a [u32]) -> Tables<'a>
-    ensures { lent result ≡ defaults side key_kinds.now key_ids.now [] [] }
-{
-    Tables {
-        side,
-        kex: &KEX,
-        key: &KEY,
-        certificate: &[],
-        cipher: &CIPHER,
-        mac: &MAC,
-        compression: &COMPRESSION,
-        key_kinds,
-        key_ids,
-        cert_kinds: &[],
-        cert_ids: &[],
-    }
-}
-
-// A reader's refusal: its number, and where.
+// A reader's refusal: its number, and where. A type of its own, since what a refusal is called is the programs' alone.
 #[derive(Clone, Copy, Debug)]
 pub struct Told(pub Refusal);
 
@@ -107,6 +82,7 @@ fn put_flag(before: &[u8], label: &[u8], flag: bool, out: &mut [u8], at: usize) 
     after(put_bytes(out, p, yes_or_no(flag)), p)
 }
 
+// Kept: bytes put one after the other, not `write!`, since each is promised (`words`).
 // The record name by name, `before` in front of each. Answers where the text ends; a piece that has no room is left out.
 pub fn put_settled(n: Names, before: &[u8], out: &mut [u8]) -> usize
     ensures next { result ≡ ended out.old 0 (words before.now n) }

@@ -28,7 +28,7 @@ use picking::{Picked, Rule, mac_rule, pick_name, stands_in};
 use wire::Cursor;
 
 // What a KEXINIT is read with: the columns of the names, the side and its own lists, rows of the columns, and the payload.
-#[derive(Clone, Copy)]
+#[derive(Clone, Copy, Debug, PartialEq, Eq)]
 pub struct Reading<'a> {
     pub names: Columns<'a>,
     pub side: Side,
@@ -116,6 +116,7 @@ impl Reading<'_> {
     }
 
     // The key and cipher lists, after the kex row, and whether the exchange is strict.
+    // Kept: each stage hands the rows so far to the next, 0 for those to come, as the definitions do it (specs/Stages).
     fn keys(&self, kex: Picked, strict: bool, c: Cursor) -> Result<(Rows, bool), Refusal>
         ensures { got_rows result ≡ keys (spells_by self.now.names) self.now.side self.now.key.now self.now.cipher.now self.now.mac.now self.now.compression.now kex.row kex.first strict (here self.now.payload.now c.at) }
     {

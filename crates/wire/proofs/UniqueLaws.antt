@@ -1,11 +1,15 @@
 -- No two answers have one meaning, whatever slice was lent: so a contract fixes the answer. Assumes nothing.
-use mathlib.Core.Path.{◌≡◌, refl, ap}
+use mathlib.Core.Path.{◌≡◌, refl, ap, sym}
 use mathlib.Core.List.{List}
 use Prim.Native.Nat.{ℕ}
 use native.Mathlib.Omega.{arith}
-use Rattle.std.specs.Prelude.{Option, Some, None, Result}
+use Rattle.std.specs.Prelude.{Option, Some, None, Result, Ok, Err}
+use Rattle.std.proofs.Common.{Bor}
+use Rattle.answer.specs.declared.Cause.{Cause}
+use Rattle.answer.specs.Refusal.{Refusal}
 use Rattle.answer.specs.declared.Refusal.{Refusal as Answered}
-use Rattle.answer.proofs.Laws.{outcome_unique}
+use Rattle.answer.proofs.Laws.{un_done, un_refused, not_both, number_unique, outcome_unique}
+use Rattle.wire.specs.Shown.{shown_part}
 use Rattle.wire.specs.declared.place.Place.{Place}
 use Rattle.wire.specs.declared.cursor.Cursor.{Cursor}
 use Rattle.wire.specs.Fields.{At, Run}
@@ -39,3 +43,14 @@ name_unique s (Some (p, c)) (Some (q, d)) h = ap name_of h
 name_unique s (Some (p, c)) None h = absurd (let z : ◌≡◌ {A = ℕ} 0 1 = cc in omega arith)
 name_unique s None (Some (q, d)) h = absurd (let z : ◌≡◌ {A = ℕ} 0 1 = cc in omega arith)
 name_unique s None None h = refl
+
+-- what a shown part means says all of a refusal, and the bytes of a part; the clauses `block` and `place` say where they stand
+pub data Alike : Result (Bor (List ℕ)) Cause → Result (Bor (List ℕ)) Cause → Type 0 where
+  parts : {x y : Bor (List ℕ)} → x.now ≡ y.now → Alike (Ok x) (Ok y)
+  refusals : {c : Cause} → Alike (Err c) (Err c)
+
+pub shown_unique : (a b : Result (Bor (List ℕ)) Cause) → shown_part a ≡ shown_part b → Alike a b
+shown_unique (Ok x) (Ok y) h = parts (un_done h)
+shown_unique (Ok x) (Err c) h = absurd (not_both h)
+shown_unique (Err c) (Ok y) h = absurd (not_both (sym h))
+shown_unique (Err c) (Err d) h = rw (number_unique c d (ap (λ (r : Refusal). r.number) (un_refused h))) refusals

@@ -17,19 +17,10 @@ shown s p = do
   _ ← guard 2 (leb (p.start + p.len) (length s))
   done (part p s)
 
--- what `show` hands back and sets: 0 and the part, or the number and no byte
-abbrev pub refusal_of : {A : Type 0} → Out A → ℕ
-refusal_of (refused r) = r.number
-refusal_of (done a) = 0
-
+-- the bytes, and none where there are none to be had
 abbrev pub bytes_of : Out (List ℕ) → List ℕ
 bytes_of (refused r) = []
 bytes_of (done s) = s
-
--- where in the slice that was lent the part stands that is handed back: at its place, or at the front, where no byte is
-abbrev pub start_of : {A : Type 0} → Place → Out A → ℕ
-start_of p (refused r) = 0
-start_of p (done a) = p.start
 
 -- what a shown part means: the bytes that it points to, or why there is none
 abbrev pub shown_part : Result (Bor (List ℕ)) Cause → Out (List ℕ)
