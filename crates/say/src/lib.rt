@@ -17,9 +17,8 @@ use names::{Kind, put_name};
 use negotiation::Names;
 use preferred::defaults::{CIPHER, COMPRESSION, KEX, KEY, MAC};
 use put::{after, put_bytes};
-use std::fmt;
-use std::io;
 use std::io::Write;
+use std::{fmt, io};
 use text::front;
 
 // The default lists of a side that has these key rows, and no certificate.
