@@ -119,6 +119,7 @@ fn show<'a>(line: &[u8], r: Reader, space: &'a [u8]) -> Asked<'a> {
     let start = start as usize;
     let len = len as usize;
     let p = shapes::judge_place(s, Place { start, len });
+    // Kept: a number, since what is replayed is the struct that harupesat_show hands over.
     if p.what == DONE {
         let (start, len) = (p.start, p.len);
         let shown = part(s, Place { start, len });
