@@ -1,5 +1,5 @@
-// Names and their numbers, the ciphers' columns, the default lists. A kind is asked for by its number in the header, so that
-// a number that is no kind's is asked for, too.
+// Names and their numbers, the ciphers' columns, the default lists.
+// Kept: a kind is a number, as harupesat_lookup and the others take it, so that one that is no kind's is asked for, too.
 use crate::print::{MARK, Text, bytes, full, wrote};
 use door::name::{
     Number, Truth, harupesat_built_in_integrity, harupesat_default_list, harupesat_lookup,

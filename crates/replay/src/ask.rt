@@ -3,7 +3,7 @@
 use crate::answers::{Answer, Values};
 use crate::functions::Function;
 use crate::reader::Reader;
-use crate::tables::{ROWS, identities, part, read_lists};
+use crate::tables::{ROWS, part, read_lists};
 use answer::Cause;
 use channels::OpenChannelMessage;
 use framing::{Counters, Opened};
@@ -31,9 +31,7 @@ fn read_kex<'a>(line: &[u8], r: Reader, space: &'a [u8]) -> Asked<'a> {
     let (payload, end) = r.bytes(line)?;
     let mut key_ids = [0u32; ROWS];
     let mut cert_ids = [0u32; ROWS];
-    let keys = identities(lists.key_ids(space), &mut key_ids);
-    let certs = identities(lists.cert_ids(space), &mut cert_ids);
-    let tables = lists.lend(space, &key_ids[..keys], &cert_ids[..certs]);
+    let tables = lists.lend(space, &mut key_ids, &mut cert_ids);
     let got = negotiation::read_kex(&tables, strict_agreed == 1, part(space, payload));
     let answer = match got {
         Ok(names) => Answer::Accepted(Values::Settled(names)),
@@ -47,9 +45,7 @@ fn write_kex<'a>(line: &[u8], r: Reader, space: &[u8], out: &'a mut [u8]) -> Ask
     let (cookie, end) = r.bytes(line)?;
     let mut key_ids = [0u32; ROWS];
     let mut cert_ids = [0u32; ROWS];
-    let keys = identities(lists.key_ids(space), &mut key_ids);
-    let certs = identities(lists.cert_ids(space), &mut cert_ids);
-    let tables = lists.lend(space, &key_ids[..keys], &cert_ids[..certs]);
+    let tables = lists.lend(space, &mut key_ids, &mut cert_ids);
     let wrote = kexinit::write_kex(&tables, part(space, cookie), out);
     Some((written(wrote, out), end))
 }
@@ -123,6 +119,7 @@ fn show<'a>(line: &[u8], r: Reader, space: &'a [u8]) -> Asked<'a> {
     let start = start as usize;
     let len = len as usize;
     let p = shapes::judge_place(s, Place { start, len });
+    // Kept: a number, since what is replayed is the struct that harupesat_show hands over.
     if p.what == DONE {
         let (start, len) = (p.start, p.len);
         let shown = part(s, Place { start, len });

@@ -12,8 +12,10 @@ pub enum Function {
     Show,
 }
 
+pub const COUNT: usize = 9;
+
 // In the report's order, which is that of the variants.
-pub const FUNCTIONS: [Function; 9] = [
+pub const FUNCTIONS: [Function; COUNT] = [
     Function::ReadKex,
     Function::WriteKex,
     Function::FrameRead,

@@ -43,13 +43,8 @@ fn split(line: &[u8]) -> Option<(&[u8], &[u8])> {
 fn named(input: &[u8]) -> Option<(Function, Reader)> {
     let end = input.iter().position(|b| *b == b' ')?;
     let function = Function::of_name(front(input, end))?;
-    Some((
-        function,
-        Reader {
-            at: end.checked_add(1)?,
-            used: 0,
-        },
-    ))
+    let at = end.checked_add(1)?;
+    Some((function, Reader { at, used: 0 }))
 }
 
 // What our code answers to a line's input, all of which was read, and what was recorded.

@@ -109,20 +109,24 @@ fn unit(line: &[u8], at: usize) -> Option<Piece>
 }
 
 impl Reader {
-    // Every word of the input is followed by a space.
+    // A given word, with the space after it.
+    pub fn word(self, line: &[u8], word: &[u8]) -> Option<Reader> {
+        let rest = line.get(self.at..)?;
+        if rest.starts_with(word) {
+            let at = self.at + word.len();
+            return Some(Reader { at, ..self });
+        }
+        None
+    }
+
+    // Every other word of the input is followed by a space.
     pub fn number(self, line: &[u8]) -> Option<(u64, Reader)> {
         let (n, end) = decimal(line, self.at);
         if end == self.at {
             return None;
         }
         let at = skip(line, end, b' ')?;
-        Some((
-            n,
-            Reader {
-                at,
-                used: self.used,
-            },
-        ))
+        Some((n, Reader { at, ..self }))
     }
 
     // Bytes between quotes: where `spread` has put them.

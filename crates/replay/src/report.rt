@@ -1,6 +1,6 @@
 // What is counted and written: how many answers of each function and sort were replayed, and how many lines differ.
 use crate::answers::Answer;
-use crate::functions::{FUNCTIONS, Function};
+use crate::functions::{COUNT, FUNCTIONS, Function};
 use std::fmt;
 
 // A refusal's numbers, and 0, which none has.
@@ -17,7 +17,7 @@ struct Counts {
 
 #[derive(Debug, Drop)]
 pub struct Report {
-    of: [Counts; 9],
+    of: [Counts; COUNT],
     wrong: u64,
 }
 
@@ -63,7 +63,7 @@ impl Report {
             need: 0,
         };
         Report {
-            of: [none; 9],
+            of: [none; COUNT],
             wrong: 0,
         }
     }

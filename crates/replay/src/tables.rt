@@ -1,6 +1,4 @@
 // A side's tables as a line has them: the side, then ten lists in the order of the fields of `judging::Tables`.
-ghost use Rattle.std.specs.Prelude.{◌≡◌, ◌≤◌, length, take};
-
 use crate::reader::Reader;
 use choice::Side;
 use judging::Tables;
@@ -21,31 +19,18 @@ pub fn part(space: &[u8], p: Place) -> &[u8] {
     p.show(space).unwrap_or(&[])
 }
 
-// The side that a word says, and the reader after it.
 fn read_side(line: &[u8], r: Reader) -> Option<(Side, Reader)> {
-    let rest = Cursor { at: r.at }.rest(line);
-    let (side, len) = if rest.starts_with(b"client ") {
-        (Side::Client, 7)
-    } else if rest.starts_with(b"server ") {
-        (Side::Server, 7)
-    } else {
-        return None;
-    };
-    Some((
-        side,
-        Reader {
-            at: r.at.checked_add(len)?,
-            used: r.used,
-        },
-    ))
+    if let Some(client) = r.word(line, b"client ") {
+        return Some((Side::Client, client));
+    }
+    Some((Side::Server, r.word(line, b"server ")?))
 }
 
 pub fn read_lists(line: &[u8], r: Reader) -> Option<(Lists, Reader)> {
-    let (side, first) = read_side(line, r)?;
-    let mut r = first;
+    let (side, mut r) = read_side(line, r)?;
     let mut places = [Place { start: 0, len: 0 }; 10];
-    for i in 0..10 {
-        (places[i], r) = r.bytes(line)?;
+    for place in places.iter_mut() {
+        (*place, r) = r.bytes(line)?;
     }
     if rows(places[7]) && rows(places[9]) {
         return Some((Lists { side, places }, r));
@@ -58,33 +43,27 @@ fn rows(p: Place) -> bool {
     p.len % 4 == 0 && p.len <= 4 * ROWS
 }
 
-// The identities at a place.
-pub fn identities(s: &[u8], ids: &mut [u32]) -> usize
-    ensures within { result ≤ length ids.new }
-    ensures whole { result ≡ length (take result ids.new) }
-{
+// As many as stand there, or have room.
+fn identities<'a>(s: &[u8], ids: &'a mut [u32]) -> &'a [u32] {
     let mut c = Cursor { at: 0 };
     for n in 0..ids.len() {
         let Ok((id, next)) = c.u32(s) else {
-            return n;
+            return &ids[..n];
         };
         ids[n] = id;
         c = next;
     }
-    ids.len()
+    ids
 }
 
 impl Lists {
-    pub fn key_ids(self, space: &[u8]) -> &[u8] {
-        part(space, self.places[7])
-    }
-
-    pub fn cert_ids(self, space: &[u8]) -> &[u8] {
-        part(space, self.places[9])
-    }
-
-    // The tables, with the identities that were read.
-    pub fn lend<'a>(self, space: &'a [u8], key_ids: &'a [u32], cert_ids: &'a [u32]) -> Tables<'a> {
+    // The tables, their identities in the room that is lent for them.
+    pub fn lend<'a>(
+        self,
+        space: &'a [u8],
+        key_ids: &'a mut [u32],
+        cert_ids: &'a mut [u32],
+    ) -> Tables<'a> {
         let p = self.places;
         Tables {
             side: self.side,
@@ -95,9 +74,9 @@ impl Lists {
             mac: part(space, p[4]),
             compression: part(space, p[5]),
             key_kinds: part(space, p[6]),
-            key_ids,
+            key_ids: identities(part(space, p[7]), key_ids),
             cert_kinds: part(space, p[8]),
-            cert_ids,
+            cert_ids: identities(part(space, p[9]), cert_ids),
         }
     }
 }
