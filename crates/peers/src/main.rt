@@ -39,9 +39,17 @@ fn settles(to: &mut impl Write, tables: &Tables, payload: &[u8]) -> io::Result<(
 fn opens(to: &mut impl Write, s: &[u8], p: Packet) -> io::Result<()> {
     let payload = p.payload(s).unwrap_or(&[]);
     write!(to, " payload {}\n  our server", payload.len())?;
-    settles(to, &default_tables(Side::Server, &KINDS, &IDS, &[], &[]), payload)?;
+    settles(
+        to,
+        &default_tables(Side::Server, &KINDS, &IDS, &[], &[]),
+        payload,
+    )?;
     write!(to, "\n  our client")?;
-    settles(to, &default_tables(Side::Client, &[], &[], &[], &[]), payload)
+    settles(
+        to,
+        &default_tables(Side::Client, &[], &[], &[], &[]),
+        payload,
+    )
 }
 
 fn reads(to: &mut impl Write, s: &[u8]) -> io::Result<()> {
