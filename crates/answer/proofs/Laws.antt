@@ -7,7 +7,19 @@ use lib.Dec.{eqb}
 use Rattle.std.specs.Prelude.{Result, Ok, Err}
 use Rattle.answer.specs.declared.Cause.{Cause}
 use Rattle.answer.specs.declared.Cause.TheVariants.{
-  TooLong, PastEnd, NotUtf8, PacketSize, Trailing, Inconsistent, Padding, NoRoom, BadTable, NoKex, NoKey, NoCipher, NoMac,
+  TooLong,
+  PastEnd,
+  NotUtf8,
+  PacketSize,
+  Trailing,
+  Inconsistent,
+  Padding,
+  NoRoom,
+  BadTable,
+  NoKex,
+  NoKey,
+  NoCipher,
+  NoMac,
   NoCompression,
 }
 use Rattle.answer.specs.declared.Refusal.{Refusal as Answered}
@@ -59,7 +71,7 @@ cause_of n =
 cause_back : (c : Cause) → cause_of (number_of c) ≡ c
 unfolding cause_of
 cause_back = elim [
-  TooLong ↦ refl
+  | TooLong ↦ refl
   | PastEnd ↦ refl
   | NotUtf8 ↦ refl
   | PacketSize ↦ refl

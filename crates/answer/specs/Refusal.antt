@@ -2,7 +2,19 @@
 use Rattle.std.specs.Prelude.{ℕ, ◌≡◌}
 use Rattle.answer.specs.declared.Cause.{Cause}
 use Rattle.answer.specs.declared.Cause.TheVariants.{
-  TooLong, PastEnd, NotUtf8, PacketSize, Trailing, Inconsistent, Padding, NoRoom, BadTable, NoKex, NoKey, NoCipher, NoMac,
+  TooLong,
+  PastEnd,
+  NotUtf8,
+  PacketSize,
+  Trailing,
+  Inconsistent,
+  Padding,
+  NoRoom,
+  BadTable,
+  NoKex,
+  NoKey,
+  NoCipher,
+  NoMac,
   NoCompression,
 }
 use Rattle.answer.specs.declared.Refusal.{Refusal as Answered}
