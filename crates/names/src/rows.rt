@@ -26,18 +26,11 @@ impl<'a> Columns<'a> {
     pub fn spelling(&self, row: usize) -> Result<&'a [u8], Cause>
         ensures { shown_part result ≡ spelled_by self.now row }
     {
-        if self.starts.len() <= row {
-            return Err(Cause::BadTable);
-        }
-        if self.lengths.len() <= row {
-            return Err(Cause::BadTable);
-        }
-        let start = usize::from(self.starts[row]);
-        let end = start + usize::from(self.lengths[row]);
-        if self.spellings.len() < end {
-            return Err(Cause::BadTable);
-        }
-        Ok(&self.spellings[start..end])
+        let start = usize::from(*self.starts.get(row).ok_or(Cause::BadTable)?);
+        let len = usize::from(*self.lengths.get(row).ok_or(Cause::BadTable)?);
+        self.spellings
+            .get(start..start + len)
+            .ok_or(Cause::BadTable)
     }
 
     // The row spells the name.
@@ -76,10 +69,8 @@ impl<'a> Columns<'a> {
 pub fn flag_at(column: &[bool], number: u8) -> Result<bool, Cause>
     ensures { flag result ≡ entry false column.now number }
 {
-    let n = usize::from(number);
-    if n < column.len() {
-        Ok(column[n])
-    } else {
-        Err(Cause::BadTable)
-    }
+    column
+        .get(usize::from(number))
+        .copied()
+        .ok_or(Cause::BadTable)
 }

@@ -1,9 +1,8 @@
--- `names::rows::flag_at`: a number inside the column and one outside. Assumes nothing.
-use Rattle.names.proofs.RowLaws.{column_in, column_out}
+-- The column's entry at the number, copied. Assumes nothing.
+use Rattle.std.specs.Prelude.{false}
+use Rattle.names.proofs.RowLaws.{copied_entry}
 use Rattle.names.proofs.rows.flag_at.Goals as goal
 
-pub returns-then-n-column : goal.returns-then-n-column
-returns-then-n-column c = search column_in
-
-pub returns-else-n-column : goal.returns-else-n-column
-returns-else-n-column c = search column_out
+pub returns : goal.returns
+returns c =
+    rw (c.ok_or.ensures.value, c.copied.ensures) (rw c.from.ensures at (copied_entry false _ _ _ c.get.ensures.lookup))
