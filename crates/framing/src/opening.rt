@@ -59,6 +59,7 @@ pub fn read(s: &[u8], k: Counters) -> Result<Opened, Refusal>
     let Ok((n, _)) = Cursor { at: 0 }.u32(s) else {
         return Ok(Opened::Need(4));
     };
+    // Kept: `as`, as in crates/wire.
     let len = n as usize;
     judge_length(len)?;
     if s.len() < len + 4 {

@@ -90,7 +90,8 @@ fn tcp_info(body: &[u8], c: Cursor) -> Result<TcpChannelInfo, Refusal>
     })
 }
 
-// The reserved fields of the two streamlocal types are read and judged, and not kept.
+// The reserved fields of the two streamlocal types are read and judged, and not handed over.
+// Kept: two readers, since a flag for the one field by which they differ is no plainer.
 fn direct_stream_local(body: &[u8], c: Cursor) -> Result<ChannelType, Refusal>
     ensures { got_type result ≡ direct_stream_local (here body.now c.at) }
 {

@@ -65,6 +65,7 @@ fn read_full(file: &mut impl Read, space: &mut [u8]) -> usize
     ensures { result ≤ length space.new }
 {
     let mut done = 0;
+    // Kept: no index is counted, a read gives as many bytes as it likes, and is not `read_exact`, which wants all of them.
     while done < space.len() {
         match file.read(&mut space[done..]) {
             Ok(0) | Err(_) => break,

@@ -134,6 +134,7 @@ impl Reader {
         let mut at = skip(line, self.at, b'"')?;
         let start = self.used;
         let mut used = start;
+        // Kept: no index is counted, `at` moves by the text of a unit, and the proof is that it does.
         while at < line.len() {
             if let Some(end) = skip(line, at, b'"') {
                 let at = skip(line, end, b' ')?;
@@ -156,6 +157,7 @@ pub fn spread(line: &[u8], space: &mut [u8]) {
     let mut inside = false;
     let mut used = 0;
     let mut at = 0;
+    // Kept, as in `bytes`.
     while at < line.len() {
         let Some(u) = unit(line, at) else {
             return;

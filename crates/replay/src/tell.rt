@@ -36,6 +36,7 @@ impl fmt::Display for Quoted<'_> {
         let x = self.0;
         f.write_str("\"")?;
         let mut i = 0;
+        // Kept: no index is counted, `i` moves by a run.
         while i < x.len() {
             let byte = x[i];
             let end = run_end(x, i);

@@ -48,6 +48,7 @@ impl Cursor {
     {
         let (n, c) = self.u32(s)?;
         let start = c.at;
+        // Kept: `as`, since std has no `From<u32>` for usize.
         let len = n as usize;
         if s.len() - start < len {
             return Err(Cause::PastEnd.at(self.at));
