@@ -38,6 +38,7 @@ fn judge_names(list: &[u8], high: u8) -> Result<(), Cause>
 {
     let mut c = Cursor { at: 0 };
     let mut n: usize = 0;
+    // Kept: walked by the cursor, whose `name` hands itself back (document 01, "Forms").
     while let Some((p, next)) = c.name(list) {
         if !stands(list, p, high) {
             return Err(Cause::NotUtf8);
