@@ -5,15 +5,16 @@ use lib.Dec.{eqb}
 use borrow.Author.Tests.{eqb-true, eqb-false}
 use mathlib.Core.List.{List, [], ◌∷◌}
 use mathlib.Core.Option.{Option, some, none, or_else}
-use Prim.Native.Nat.{ℕ, ◌+◌, ◌≤◌, ◌<◌}
+use Prim.Native.Nat.{ℕ, ◌≤◌, ◌<◌}
 use native.Mathlib.Nat.{add-zero, add-sub_cancel_left, le_refl}
-use native.Mathlib.Numerals.{add-one}
 use native.Mathlib.Omega.{arith}
 use lib.ListN.{length, get_or, take, drop}
-use lib.Seq.{drop-cons, drop-length, take-take, take-length, length-take-le}
+use lib.Seq.{take-take, take-length, length-take-le}
 use Rattle.wire.specs.declared.cursor.Cursor.{Cursor}
 use Rattle.wire.specs.declared.place.Place.{Place}
 use Rattle.std.specs.Prelude.{Option as Maybe, Some, None}
+use Rattle.std.specs.List.{position}
+use Rattle.std.specs.Option.{unwrap_or}
 use Rattle.wire.specs.Fields.{here}
 use Rattle.commas.specs.Cut.{cut}
 use Rattle.wire.specs.Walk.{next_name}
@@ -24,29 +25,7 @@ use Rattle.wire.proofs.WalkLaws.{names_left, name_inside, name_less}
 use Rattle.choice.specs.declared.Side.{Side}
 use Rattle.choice.specs.declared.Side.TheVariants.{Client, Server}
 use Rattle.choice.specs.Rows.{chosen_row, offered, row_for, own_first, peer_first, first_both, place_of, row_at}
-use Rattle.choice.proofs.PlaceLaws.{row_in, row_out, place_within, first_at, narrow, place_none}
-
--- the walk over the own rows
-module _ (spells : ℕ → List ℕ → Bool) (own name : List ℕ) (whole i : ℕ) (left : whole ≡ i + place_of spells (drop i own) name) where
-  pub place_over : length own ≤ i → i ≤ length own → length own ≡ whole
-  unfolding place_of
-  place_over h k =
-      let e : i ≡ length own = omega arith in
-      let d : drop i own ≡ [] = rw e (drop-length own) in
-      sym (rw (d, add-zero i, e) at left)
-
-  module _ (h : i < length own) (b : Bool) (r : ℕ) (tested : b ≡ spells r name) (row : r ≡ get_or own i 0) where
-    pub place_here : b ≡ true → i ≡ whole
-    unfolding place_of
-    place_here t = sym (rw (drop-cons own i 0 h, ← row, ← tested, t, add-zero i) at left)
-
-    pub place_on : b ≡ false → whole ≡ (i + 1) + place_of spells (drop (i + 1) own) name
-    unfolding place_of
-    place_on t =
-        let d = rw (drop-cons own i 0 h, ← row, ← tested, t) at left in
-        rw add-one (omega arith)
-
-pub ruleset place_laws = (place_over, place_here, place_on)
+use Rattle.choice.proofs.PlaceLaws.{row_in, row_out, place_within, place_some, place_past, place_or, first_at, narrow, place_none}
 
 -- the own rows that are left at the start, and how many are left
 pub own_start : {Y : Type 0} (test : ℕ → Y → Bool) (own : List ℕ) (y : Y) → place_of test own y ≡ place_of test (take (length own) own) y
@@ -69,15 +48,21 @@ module _ (s : List ℕ) (i : ℕ) (r : Maybe (Place × Cursor)) (told : next_of 
       unfolding peer_first
       peer_none e = rw (inv, no_more e)
 
-      module _ (p : Place) (c : Cursor) (name : List ℕ) (e : r ≡ Some (p, c)) (f : name ≡ part p s) (k : ℕ)
-          (at : k ≡ place_of spells own name) where
-        pub peer_here : k < length own → some (get_or own k 0) ≡ whole
-        unfolding peer_first row_for or_else
-        peer_here h = rw (inv, one_more p c name e f, first_at, ← at, ← row_in own k h)
+      module _ (p : Place) (c : Cursor) (name : List ℕ) (e : r ≡ Some (p, c)) (f : name ≡ part p s) (o : Maybe ℕ)
+          (at : o ≡ position (λ row. spells row name) own) where
+        pub peer_within : (k : ℕ) → o ≡ Some k → k < length own
+        peer_within k h = (place_some spells name own o at k h).1
 
-        pub peer_on : length own ≤ k → whole ≡ peer_first spells own (cut (drop c.at s))
+        pub peer_here : (k : ℕ) → o ≡ Some k → some (get_or own k 0) ≡ whole
         unfolding peer_first row_for or_else
-        peer_on h = rw (inv, one_more p c name e f, first_at, ← at, ← row_out own k h)
+        peer_here k h =
+            let q = place_some spells name own o at k h in rw (inv, one_more p c name e f, first_at, ← q.0, ← row_in own k q.1)
+
+        pub peer_on : o ≡ None → whole ≡ peer_first spells own (cut (drop c.at s))
+        unfolding peer_first row_for or_else
+        peer_on h =
+            let q = place_past spells name own o at h in
+            rw (inv, one_more p c name e f, first_at, q, ← row_out own (length own) (le_refl (length own)))
 
     module _ (names : List (List ℕ)) (best : ℕ) (b : best ≤ length own)
         (inv : place_of (offered spells) own names ≡ place_of (offered spells) (take best own) (cut (drop i s))) where
@@ -85,8 +70,11 @@ module _ (s : List ℕ) (i : ℕ) (r : Maybe (Place × Cursor)) (told : next_of 
       unfolding own_first
       own_done v e h = rw (h, first_at, inv, no_more e, place_none, length-take-le best own b)
 
-      module _ (p : Place) (c : Cursor) (name : List ℕ) (e : r ≡ Some (p, c)) (f : name ≡ part p s) (k : ℕ)
-          (at : k ≡ place_of spells (take best own) name) where
+      module _ (p : Place) (c : Cursor) (name : List ℕ) (e : r ≡ Some (p, c)) (f : name ≡ part p s) (o : Maybe ℕ)
+          (told_at : o ≡ position (λ row. spells row name) (take best own)) (k : ℕ) (or : k ≡ unwrap_or o best) where
+        at : k ≡ place_of spells (take best own) name
+        at = or ∙ place_or spells name (take best own) o told_at best (own_count own best b)
+
         nearer : k ≤ best
         nearer = rw at (let h = place_within spells name (take best own) in rw length-take-le at h)
 
@@ -131,7 +119,7 @@ module _ (s own : List ℕ) (spells : ℕ → List ℕ → Bool) (r : Maybe (Pla
 
 pub ruleset both_laws = (name_inside, both_unlisted, both_unowned, both_firsts)
 
-pub ruleset peer_laws = (name_inside, name_less, peer_none, peer_here, peer_on)
+pub ruleset peer_laws = (name_inside, name_less, peer_none, peer_within, peer_here, peer_on)
 
 pub ruleset own_laws = (le_refl, name_inside, name_less, own_start, own_count, own_done, own_best, own_within, own_on)
 

@@ -6,11 +6,11 @@
 #![tactic(auto)]
 
 ghost use Rattle.std.specs.Prelude.{◌≡◌, ◌+◌, ◌≤◌, length};
+ghost use Rattle.std.specs.List.{position};
 ghost use Rattle.commas.specs.Cut.{cut};
 ghost use Rattle.wire.specs.Shown.{part};
 ghost use Rattle.choice.specs.Rows.{
   spells_by,
-  place_of,
   row_at,
   own_first,
   peer_first,
@@ -36,17 +36,12 @@ fn at_place(list: &[u8], p: Place) -> &[u8]
     &list[p.start..p.start + p.len]
 }
 
-// The place of the first own row that spells the name, or the own list's length.
-// Kept: `own.iter().position(..)` and an `Option` were tried, and slower: KEXINIT read +1.9 % added up, worst +4.9 % (28 rows).
-fn position(names: &Columns, own: &[u8], name: &[u8]) -> usize
-    ensures { result ≡ place_of (spells_by names.now) own.now name.now }
+// The place of the first own row that spells the name.
+fn position(names: &Columns, own: &[u8], name: &[u8]) -> Option<usize>
+    ensures { result ≡ position (λ row. spells_by names.now row name.now) own.now }
 {
-    for (place, row) in own.iter().enumerate() {
-        if names.spells(usize::from(*row), name) {
-            return place;
-        }
-    }
-    own.len()
+    own.iter()
+        .position(|&row| names.spells(usize::from(row), name))
 }
 
 fn row_at(own: &[u8], place: usize) -> Option<u8>
@@ -61,8 +56,7 @@ fn peer_first(names: &Columns, own: &[u8], list: &[u8]) -> Option<u8>
     let mut c = Cursor { at: 0 };
     // Kept: walked by the cursor, whose `name` hands itself back (document 01, "Forms").
     while let Some((p, next)) = c.name(list) {
-        let k = position(names, own, at_place(list, p));
-        if k < own.len() {
+        if let Some(k) = position(names, own, at_place(list, p)) {
             return Some(own[k]);
         }
         c = next;
@@ -79,7 +73,7 @@ fn own_first(names: &Columns, own: &[u8], list: &[u8]) -> Option<u8>
     let mut c = Cursor { at: 0 };
     // Kept: walked by the cursor, whose `name` hands itself back (document 01, "Forms").
     while let Some((p, next)) = c.name(list) {
-        best = position(names, &own[..best], at_place(list, p));
+        best = position(names, &own[..best], at_place(list, p)).unwrap_or(best);
         if best == 0 {
             return row_at(own, best);
         }

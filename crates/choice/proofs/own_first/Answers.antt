@@ -1,14 +1,8 @@
 use Rattle.choice.proofs.WalkLaws.{own_laws}
 use Rattle.choice.proofs.own_first.Goals as goal
 
-pub loop-p-init : goal.loop-p-init
-loop-p-init c = search own_laws
-
 pub at_place-requires : goal.at_place-requires
 at_place-requires c = search own_laws
-
-pub slice_bounds-position-end : goal.slice_bounds-position-end
-slice_bounds-position-end c = search own_laws
 
 pub returns-then-best-eq0 : goal.returns-then-best-eq0
 returns-then-best-eq0 c = search own_laws

@@ -4,8 +4,8 @@ use Rattle.choice.proofs.peer_first.Goals as goal
 pub at_place-requires : goal.at_place-requires
 at_place-requires c = search peer_laws
 
-pub returns-then-k-own : goal.returns-then-k-own
-returns-then-k-own c = search peer_laws
+pub returns-in-Some-position : goal.returns-in-Some-position
+returns-in-Some-position c = search peer_laws
 
 pub loop-p-smaller : goal.loop-p-smaller
 loop-p-smaller c = search peer_laws
