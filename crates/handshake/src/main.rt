@@ -10,7 +10,7 @@ use judging::Tables;
 use negotiation::Names;
 use preferred::default_tables;
 use preferred::defaults::CIPHER;
-use say::Told;
+use say::{Settled, Told};
 use std::io::Write;
 use std::{fmt, io};
 use text::front;
@@ -95,7 +95,7 @@ fn reads(tables: &Tables, s: &[u8]) -> Result<Names, Unsettled> {
 
 fn tells(to: &mut impl Write, before: &str, end: Result<Names, Unsettled>) -> io::Result<()> {
     match end {
-        Ok(n) => say::settled(to, n, before.as_bytes()),
+        Ok(n) => write!(to, "{}", Settled(n, before.as_bytes())),
         Err(u) => write!(to, "{before}{u}"),
     }
 }

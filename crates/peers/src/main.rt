@@ -9,7 +9,7 @@ use choice::Side;
 use framing::{Counters, Opened, Packet};
 use judging::Tables;
 use preferred::default_tables;
-use say::Told;
+use say::{Settled, Told};
 use std::env::FillError;
 use std::fs::File;
 use std::io;
@@ -30,7 +30,7 @@ const NAME: usize = 256;
 
 fn settles(to: &mut impl Write, tables: &Tables, payload: &[u8]) -> io::Result<()> {
     match negotiation::read_kex(tables, false, payload) {
-        Ok(n) => say::settled(to, n, b", "),
+        Ok(n) => write!(to, "{}", Settled(n, b", ")),
         Err(r) => write!(to, " refuses with {}", Told(r)),
     }
 }

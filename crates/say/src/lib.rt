@@ -12,8 +12,7 @@ use answer::Refusal;
 use names::{Kind, put_name};
 use negotiation::Names;
 use put::{after, put_bytes};
-use std::io::Write;
-use std::{fmt, io};
+use std::fmt;
 use text::front;
 
 // A reader's refusal: its number, and where. A type of its own, since what a refusal is called is the programs' alone.
@@ -124,9 +123,17 @@ pub fn put_settled(n: Names, before: &[u8], out: &mut [u8]) -> usize
     put_flag(before, b"strict ", flags.strict_kex, out, at)
 }
 
-// The same, written.
-pub fn settled(to: &mut impl Write, n: Names, before: &[u8]) -> io::Result<()> {
-    let mut text = [0u8; 1024];
-    let end = put_settled(n, before, &mut text);
-    to.write_all(front(&text, end))
+// The record, and what is in front of each of its names, for printing as `put_settled` has it.
+#[derive(Clone, Copy, Debug)]
+pub struct Settled<'a>(pub Names, pub &'a [u8]);
+
+impl fmt::Display for Settled<'_> {
+    fn fmt<W: fmt::Write>(&self, f: &mut fmt::Formatter<W>) -> fmt::Result {
+        let mut text = [0u8; 1024];
+        let end = put_settled(self.0, self.1, &mut text);
+        match str::from_utf8(front(&text, end)) {
+            Ok(words) => f.write_str(words),
+            Err(_) => Err(fmt::Error),
+        }
+    }
 }
