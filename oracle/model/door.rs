@@ -1,4 +1,4 @@
-//! crates/kinds/specs/Kinds: names asked by the number of their kind. The structs that cross are src/ours.
+//! crates/kinds/specs/Kinds, crates/names/specs/Numbered: names asked by the number of their kind. The structs that cross are src/ours.
 
 use crate::answer::{Out, guard, refuse};
 use crate::names::{Kind, count, number_of, spelled};

@@ -1,3 +1,4 @@
+pub mod RowLaws
 pub mod MadeLaws
 pub mod FitLaws
 pub mod RoomLaws

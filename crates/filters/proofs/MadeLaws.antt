@@ -9,7 +9,7 @@ use borrow.Author.Tests.{eq-eqb, ne_eqb}
 use lib.Dec.{eqb}
 use lib.ListN.{length, get_or, drop, drop_of_length-le}
 use Rattle.std.specs.List.{list_any}
-use Rattle.arrayvec.specs.ArrayVec.{ArrayVec}
+use Rattle.filters.specs.Items.{Items}
 use Rattle.choice.specs.Choice.{kept}
 use Rattle.filters.specs.Made.{row_list, shown, pushed, joined, joined_once, certified}
 use Rattle.filters.specs.Picked.{member, of_kind, kind_of}
@@ -26,7 +26,7 @@ known : (n : ℕ) (ns : List ℕ) {b t : Bool} → b ≡ list_any (λ m. eqb m n
 known n ns e t = sym (list_any-member n ns) ∙ sym e ∙ t
 
 -- a list starts empty
-module _ (l : ArrayVec ℕ) (e : l.items ≡ []) where
+module _ (l : Items) (e : l.items ≡ []) where
   pub start : (ns : List ℕ) → joined (row_list []) ns ≡ joined l ns
   start ns = ap (λ xs. joined (row_list xs) ns) (sym e)
 
@@ -34,7 +34,7 @@ module _ (l : ArrayVec ℕ) (e : l.items ≡ []) where
   start_certified key ids ks is = ap (λ xs. certified (row_list xs) key ids ks is) (sym e)
 
 -- a loop that keeps some of its numbers, whatever the test
-module _ (f : ℕ → Bool) (ns : List ℕ) (i : ℕ) (whole l : ArrayVec ℕ) (left : whole ≡ joined l (kept f (drop i ns))) where
+module _ (f : ℕ → Bool) (ns : List ℕ) (i : ℕ) (whole l : Items) (left : whole ≡ joined l (kept f (drop i ns))) where
   pub keep_end : length ns ≤ i → l ≡ whole
   unfolding joined kept
   keep_end h = sym (rw (drop_of_length-le ns h) at left)
@@ -48,7 +48,7 @@ module _ (f : ℕ → Bool) (ns : List ℕ) (i : ℕ) (whole l : ArrayVec ℕ) (
     unfolding kept
     keep_out e = left ∙ rw (next ns i h, e)
 
-module _ (l : ArrayVec ℕ) (n : ℕ) (ns : List ℕ) where
+module _ (l : Items) (n : ℕ) (ns : List ℕ) where
   pub once_there : member n (shown l) ≡ true → joined_once l (n ∷ ns) ≡ joined_once l ns
   unfolding joined_once
   once_there e = ap (λ (b : Bool). joined_once (pick b l (pushed l n)) ns) e
@@ -58,7 +58,7 @@ module _ (l : ArrayVec ℕ) (n : ℕ) (ns : List ℕ) where
   once_new e = ap (λ (b : Bool). joined_once (pick b l (pushed l n)) ns) e
 
 -- a loop that adds the names of a kind, each once
-module _ (k : ℕ) (ns : List ℕ) (i : ℕ) (whole l : ArrayVec ℕ) (left : whole ≡ joined_once l (of_kind k (drop i ns))) where
+module _ (k : ℕ) (ns : List ℕ) (i : ℕ) (whole l : Items) (left : whole ≡ joined_once l (of_kind k (drop i ns))) where
   pub once_end : length ns ≤ i → l ≡ whole
   unfolding joined_once of_kind kept
   once_end h = sym (rw (drop_of_length-le ns h) at left)
@@ -78,7 +78,7 @@ module _ (k : ℕ) (ns : List ℕ) (i : ℕ) (whole l : ArrayVec ℕ) (left : wh
       once_added t = left ∙ rw (next ns i h, eq-eqb (kind_of (get_or ns i 0)) k e) (once_new l (get_or ns i 0) _ (known _ _ held t))
 
 -- a loop over the certificate rows, of which these columns are left
-module _ (key ids : List ℕ) (whole l : ArrayVec ℕ) where
+module _ (key ids : List ℕ) (whole l : Items) where
   pub certified_end : (ks is : List ℕ) → whole ≡ certified l key ids ks is → (ks ≡ []) ⊎ (is ≡ []) → l ≡ whole
   unfolding certified
   certified_end [] is left e = sym left

@@ -1,2 +1,4 @@
 pub mod Picked
+pub mod Items
+pub mod Rows
 pub mod Made

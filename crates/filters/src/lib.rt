@@ -8,10 +8,13 @@
 ghost use Rattle.std.specs.Prelude.{◌≡◌, ℕ, Bool, []};
 ghost use Rattle.choice.specs.Choice.{kept};
 ghost use Rattle.filters.specs.Picked.{without, held, of_kind, kind_of};
-ghost use Rattle.filters.specs.Made.{row_list, pushed, joined, joined_once, certified};
+ghost use Rattle.filters.specs.Made.{row_list, joined, joined_once, certified};
 
-use arrayvec::ArrayVec;
 use judging::MOST_ENTRIES;
+
+mod rows;
+
+pub use rows::{RowList, push};
 
 // The most rows of an own list: certificate names, then key names.
 pub const MOST_OWN: usize = 2 * MOST_ENTRIES;
@@ -19,19 +22,6 @@ pub const MOST_OWN: usize = 2 * MOST_ENTRIES;
 // The kind of an RSA key, and its first name's number.
 // Kept: a key row's kind is a number, as C lends it (harupesat_read_kex).
 const RSA: u8 = 4;
-
-// Rows of the name table, or numbers of a kind, in the value itself: nothing is allocated.
-pub type RowList = ArrayVec<u8, MOST_OWN>;
-
-// A full list stays as it is. None that is made of judged lists gets that far: the laws of proofs/RoomLaws.antt.
-#[tactic(auto, unfolding(crate::specs::Made::pushed))]
-pub fn push(list: &mut RowList, number: u8)
-    ensures { list.new ≡ pushed list.old number }
-{
-    if !list.is_full() {
-        list.push(number);
-    }
-}
 
 // Those that are to be kept: `keep` answers as p does.
 fn picked<F: Fn(u8) -> bool>(numbers: &[u8], keep: F) -> RowList

@@ -2,11 +2,14 @@
 -- padding. Assumes nothing.
 use Rattle.std.proofs.Common.{◌≡◌, ℕ, ◌+◌, ◌-◌, ◌%◌, ◌^◌, ◌<◌, ◌≤◌, min, List, get_or, set, replicate, arith, le-ltb, lt-ltb, eq-eqb, ne_eqb, le-leb}
 use borrow.Author.Tests.{lt-leb}
+use lib.ListN.{length-replicate, replicate-append-replicate}
+use lib.Seq.{sets}
 use Rattle.answer.specs.declared.Cause.TheVariants.{Padding}
 use Rattle.answer.specs.declared.Refusal.{Refusal as Answered}
 use Rattle.answer.specs.Refusal.{told}
 use Rattle.answer.specs.Answer.{refused, done, refuse}
 use Rattle.answer.proofs.Laws.{NoAt}
+use Rattle.put.proofs.PutLaws.{sets_append}
 use Rattle.framing.specs.Clear.{most_length, judged_length, judged_padding, padding_length, padding_of}
 
 module _ (len : ℕ) where
@@ -51,3 +54,7 @@ module _ (s : List ℕ) (len : ℕ) where
   padding_byte b e h = rw (ne_eqb len 0 h) e
 
 pub ruleset byte_laws = (padding_none, padding_byte)
+
+-- one turn of the zero padding
+pub zeroed : (d out : List ℕ) (at j : ℕ) → out ≡ sets d at (replicate j 0) → set out (at + j) 0 ≡ sets d at (replicate (j + 1) 0)
+zeroed d out at j e = rw (e, ← (replicate-append-replicate {A = ℕ} j 1 0), sets_append, length-replicate)

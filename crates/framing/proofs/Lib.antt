@@ -1,5 +1,6 @@
 mod CodeLaws
 mod OpeningLaws
+mod StoreLaws
 pub mod WriteLaws
 mod SealingLaws
 pub mod ReadLaws

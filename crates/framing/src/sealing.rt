@@ -2,7 +2,7 @@
 //
 // Copyright 2016 Pierre-Étienne Meunier, licensed under the Apache License, Version 2.0 (NOTICE); changed: rewritten for
 // lent slices and tables of numbers.
-ghost use Rattle.std.specs.Prelude.{◌≡◌, ◌+◌, ◌≤◌, length};
+ghost use Rattle.std.specs.Prelude.{◌≡◌, ◌+◌, ◌≤◌, length, replicate};
 ghost use Rattle.std.proofs.lemmas.List.Edits.{sets};
 ghost use Rattle.put.specs.Written.{buffer};
 ghost use Rattle.framing.specs.Clear.{padding_length, packet_length, frame, packet_of};
@@ -12,6 +12,9 @@ use crate::{Counters, PADDING_AT, Sealed, judge_length};
 use answer::Cause;
 
 const BLOCK_SIZE: usize = 8;
+
+// The most that padding_length answers.
+const MOST_PADDING: usize = 11;
 
 // "Cleartext packets (including lengths) must be multiple of 8 in length" (src/cipher/clear.rs).
 #[tactic(auto, using(crate::proofs::CodeLaws::padding_laws))]
@@ -26,18 +29,48 @@ pub fn padding_length(payload: &[u8]) -> usize
     padding_len
 }
 
-// The caller tested the room.
+// Kept: a loop and no `fill`, so that the library for C needs no name from outside.
+#[tactic(auto, using(crate::proofs::CodeLaws::zeroed))]
+fn fill_padding(out: &mut [u8], at: usize, n: usize)
+    requires { at + n ≤ length out.old }
+    ensures { out.new ≡ sets out.old at (replicate n 0) }
+{
+    for j in 0..n {
+        out[at + j] = 0;
+    }
+}
+
+// A copy takes 32 bytes at a time and is slow with what is left, so the last 32 bytes are copied whole, some of them again.
+// They go by an array, which cannot overlap the output as the payload could for all that the compiler knows.
+// Kept: the loop of `put_bytes` and no `copy_from_slice`, so that the library for C needs no name from outside.
+fn put_payload(out: &mut [u8], x: &[u8])
+    requires { 5 + length x.now ≤ length out.old }
+    ensures { out.new ≡ sets out.old 5 x.now }
+{
+    if x.len() < 32 {
+        let _ = put::put_bytes(out, 5, x);
+        return;
+    }
+    let whole = x.len() / 32 * 32;
+    let _ = put::put_bytes(out, 5, &x[..whole]);
+    let last = x.len() - 32;
+    let mut piece = [0; 32];
+    let _ = put::put_bytes(&mut piece, 0, &x[last..]);
+    let _ = put::put_bytes(out, 5 + last, &piece);
+}
+
+// The room was tested by the caller, so that no put refuses. As many zeros as padding can be are stored before the payload,
+// which then stands over those that are too many: their number is a constant, so that they take two stores and no loop.
 fn seal(payload: &[u8], padding: u8, len: u32, out: &mut [u8])
     requires { (padding ≡ padding_length (length payload.now))
         × (len ≡ packet_length (length payload.now))
         × (4 + packet_length (length payload.now) ≤ length out.old) }
     ensures { out.new ≡ sets out.old 0 (frame payload.now) }
 {
-    let end = 5 + payload.len();
-    out[..PADDING_AT].copy_from_slice(&len.to_be_bytes());
-    out[PADDING_AT] = padding;
-    out[5..end].copy_from_slice(payload);
-    out[end..end + usize::from(padding)].fill(0);
+    fill_padding(out, 4 + len as usize - MOST_PADDING, MOST_PADDING);
+    let _ = put::put_u32(out, 0, len);
+    let _ = put::put_u8(out, PADDING_AT, padding);
+    put_payload(out, payload);
 }
 
 #[tactic(auto, using(crate::proofs::SealingLaws::write_laws))]

@@ -19,7 +19,7 @@ use judging::Tables;
 use lists::{put_rows, rows_length};
 use names::Columns;
 use names::tables::columns;
-use preferred::{Own, own_lists};
+use preferred::{Own, fill_lists};
 use put::{after, put_bytes, put_u8, put_u32};
 
 // msg::KEXINIT
@@ -33,7 +33,7 @@ const FIXED: usize = 62;
 // What a KEXINIT is put together from.
 #[derive(Clone, Copy)]
 struct Pieces<'a> {
-    names: Columns<'a>,
+    names: Columns<'a, 'a>,
     own: &'a Own,
     cookie: &'a [u8],
 }
@@ -112,7 +112,8 @@ pub fn write_kex(tables: &Tables, cookie: &[u8], out: &mut [u8]) -> Result<usize
     ensures answer { put result ≡ written out.old 0 (write_kex (lent tables.now) cookie.now) }
     ensures bytes { out.new ≡ buffer out.old 0 (write_kex (lent tables.now) cookie.now) }
 {
-    let own = own_lists(tables)?;
+    let mut own = Own::new();
+    fill_lists(tables, &mut own)?;
     if cookie.len() != COOKIE {
         return Err(Cause::BadTable);
     }

@@ -30,10 +30,10 @@ fn known(names: &Columns, rows: &[u8]) -> bool
 }
 
 // What a row spells, where one that is outside counts as empty.
-fn spelt<'a>(names: &Columns<'a>, row: u8) -> &'a [u8]
+fn spelt<'a>(names: &Columns<'a, '_>, row: u8) -> &'a [u8]
     ensures { result.now ≡ bytes_of (spelled_by names.now row) }
 {
-    names.spelling(usize::from(row)).unwrap_or(&[])
+    names.spelt(usize::from(row))
 }
 
 // A name and its comma more, or as far as is counted.

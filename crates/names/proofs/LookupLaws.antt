@@ -1,12 +1,18 @@
 -- The look-up over the rows of a kind is the look-up among its names. Assumes nothing.
 use mathlib.Core.Path.{◌≡◌, refl, ap, ◌∙◌}
-use mathlib.Core.List.{List, ◌++◌}
+use mathlib.Core.Bool.{true}
+use mathlib.Core.List.{List, [], ◌++◌}
 use mathlib.Core.Option.{Option, some, none}
 use Prim.Native.Nat.{ℕ, ◌+◌, ◌-◌, ◌≤◌, ◌<◌}
 use native.Mathlib.Omega.{arith}
 use lib.Dec.{lit≤}
 use lib.ListN.{length}
+use Rattle.std.specs.Bool.{◌==◌}
+use Rattle.std.proofs.lemmas.Bool.{eqb-true}
+use Rattle.std.proofs.lemmas.List.{nil_from_length}
+use Rattle.text.specs.Same.{same}
 use Rattle.names.specs.declared.Kind.{Kind}
+use Rattle.names.specs.declared.Kind.TheVariants.{Kex, Key, Certificate, Cipher, Mac, Compression}
 use Rattle.names.specs.Tables.{names_of, all_names, first_row, kex_names, key_names, certificate_names, cipher_names, mac_names, compression_names}
 use Rattle.names.specs.Lookup.{number_of, place_from, row_from, onward}
 use Rattle.names.proofs.ColumnLaws.{flat, starts, lengths, row_place}
@@ -35,6 +41,19 @@ kind_row k name from count p q =
 
 pub kind_room : (k : Kind) (from count : ℕ) → from ≡ first_row k → count ≡ length (names_of k) → from + count ≤ 44
 kind_room k from count p q = rw (p, q) (kind_rows k)
+
+-- no kind has an empty name
+unnamed_kind : (k : Kind) → none ≡ number_of k []
+unfolding number_of place_from names_of kex_names key_names certificate_names cipher_names mac_names compression_names same
+unnamed_kind Kex = refl
+unnamed_kind Key = refl
+unnamed_kind Certificate = refl
+unnamed_kind Cipher = refl
+unnamed_kind Mac = refl
+unnamed_kind Compression = refl
+
+pub unnamed : (k : Kind) (name : List ℕ) → (length name == 0) ≡ true → none ≡ number_of k name
+unnamed k name e = rw (nil_from_length name (eqb-true (length name) 0 e)) (unnamed_kind k)
 
 -- the number of a row that was found fits a byte
 module _ (k : Kind) (name : List ℕ) (first n : ℕ) (at : first ≡ first_row k) where

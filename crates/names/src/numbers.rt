@@ -20,6 +20,10 @@ fn row_of(kind: Kind, name: &[u8]) -> Option<usize>
 pub fn lookup(kind: Kind, name: &[u8]) -> Option<u8>
     ensures { found result ≡ number_of kind name.now }
 {
+    // No name is empty, so no row is looked at.
+    if name.is_empty() {
+        return None;
+    }
     let row = row_of(kind, name)?;
     Some((row - kind.first_row()) as u8)
 }

@@ -5,7 +5,7 @@
 // lent slices and tables of numbers.
 ghost use Rattle.std.specs.Prelude.{false, ◌≡◌, ◌-◌};
 ghost use Rattle.put.specs.Written.{written, buffer, put};
-ghost use Rattle.wire.specs.Shown.{shown_part};
+ghost use Rattle.wire.specs.Shown.{shown_part, bytes_of};
 ghost use Rattle.names.specs.Spelled.{spelled_by, entry, flag};
 ghost use Rattle.names.specs.Lookup.{row_from, is, found_row};
 
@@ -14,14 +14,15 @@ use answer::Cause;
 use put::put_bytes;
 
 // Kept: three columns, as document 01 has them ("constant tables of spellings, starts and lengths"); `row_name` says what a row is.
+// What is spelled is a part of the spellings alone, and lives as long as they do: the other two may be lent for less.
 #[derive(Clone, Copy, Debug, PartialEq, Eq)]
-pub struct Columns<'a> {
+pub struct Columns<'a, 'b> {
     pub spellings: &'a [u8],
-    pub starts: &'a [u16],
-    pub lengths: &'a [u8],
+    pub starts: &'b [u16],
+    pub lengths: &'b [u8],
 }
 
-impl<'a> Columns<'a> {
+impl<'a> Columns<'a, '_> {
     // What the row spells: it is in both columns, and ends within the spellings.
     pub fn spelling(&self, row: usize) -> Result<&'a [u8], Cause>
         ensures { shown_part result ≡ spelled_by self.now row }
@@ -31,6 +32,13 @@ impl<'a> Columns<'a> {
         self.spellings
             .get(start..start + len)
             .ok_or(Cause::BadTable)
+    }
+
+    // The same, where a row that is outside counts as empty.
+    pub fn spelt(&self, row: usize) -> &'a [u8]
+        ensures { result.now ≡ bytes_of (spelled_by self.now row) }
+    {
+        self.spelling(row).unwrap_or(&[])
     }
 
     // The row spells the name.

@@ -8,7 +8,7 @@ ghost use Rattle.names.specs.Constant.{AreConstant};
 use super::Columns;
 
 // The constant columns, lent for as long as is asked.
-pub fn columns<'a>() -> Columns<'a>
+pub fn columns<'a>() -> Columns<'a, 'a>
     ensures { AreConstant result }
 {
     Columns {

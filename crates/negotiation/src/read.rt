@@ -13,7 +13,7 @@ use answer::{Cause, Refusal};
 use choice::Side;
 use judging::Tables;
 use names::tables::columns;
-use preferred::own_lists;
+use preferred::{Own, fill_lists};
 use stages::Reading;
 use wire::Cursor;
 
@@ -50,7 +50,8 @@ fn other(side: Side) -> Side
 pub fn read_kex(tables: &Tables, strict_agreed: bool, p: &[u8]) -> Result<Names, Refusal>
     ensures { got_names result ≡ read_kex (lent tables.now) strict_agreed p.now }
 {
-    let own = own_lists(tables)?;
+    let mut own = Own::new();
+    fill_lists(tables, &mut own)?;
     if MAXIMUM_KEXINIT < p.len() {
         return Err(Cause::TooLong.at(0));
     }

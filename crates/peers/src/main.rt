@@ -89,9 +89,9 @@ fn read_file(rt: &impl Files, name: &[u8], space: &mut [u8]) -> usize
 }
 
 fn peer(rt: &impl Files, to: &mut impl Write, name: &[u8]) -> io::Result<()> {
+    to.write_all(name)?;
     let mut space = [0u8; SPACE];
     let got = read_file(rt, name, &mut space);
-    to.write_all(name)?;
     write!(to, ": bytes {got}")?;
     reads(to, front(&space, got))?;
     writeln!(to)

@@ -6,7 +6,7 @@ use Prim.Native.Nat.{ℕ, ◌+◌, ◌≤◌, ◌<◌}
 use native.Mathlib.Omega.{arith}
 use native.Mathlib.Nat.{zero-add}
 use lib.ListN.{length, get_or, drop, length-map, drop_of_length-le}
-use Rattle.arrayvec.specs.ArrayVec.{ArrayVec}
+use Rattle.filters.specs.Items.{Items}
 use Rattle.answer.specs.Answer.{Out, done, refuse}
 use Rattle.names.specs.declared.Kind.{Kind}
 use Rattle.names.specs.declared.Kind.TheVariants.{Kex, Key, Certificate, Cipher, Mac, Compression}
@@ -29,7 +29,7 @@ module _ (k : Kind) (ns : List ℕ) (i : ℕ) where
   pub row_known : good_list k ns ≡ true → i < length ns → get_or ns i 0 < length (names_of k)
   row_known g h = good_at k ns g i h
 
-  module _ (whole l : ArrayVec ℕ) (left : whole ≡ joined l (rows k (drop i ns))) where
+  module _ (whole l : Items) (left : whole ≡ joined l (rows k (drop i ns))) where
     pub rows_end : length ns ≤ i → l ≡ whole
     unfolding joined
     rows_end h = sym (rw (drop_of_length-le ns h) at left)
@@ -64,7 +64,7 @@ pub kex_rows_lem : (ns : List ℕ) → rows Kex ns ≡ ns
 kex_rows_lem [] = refl
 kex_rows_lem (n ∷ ns) = rw (zero-add n, kex_rows_lem ns)
 
-pub kex_list_lem : (ns : List ℕ) → good_list Kex ns ≡ true → (r : ArrayVec ℕ) (dropped : List ℕ) → r ≡ joined (row_list []) (without dropped ns)
+pub kex_list_lem : (ns : List ℕ) → good_list Kex ns ≡ true → (r : Items) (dropped : List ℕ) → r ≡ joined (row_list []) (without dropped ns)
     → r ≡ row_list (rows Kex (without dropped ns))
 kex_list_lem ns g r dropped e =
     let l : length (without dropped ns) ≤ most_entries = good_short Kex (without dropped ns) (good_without Kex dropped ns g) in
@@ -75,12 +75,12 @@ pub rows_short : (k : Kind) (ns : List ℕ) → good_list k ns ≡ true → leng
 rows_short k ns g = rw (length-map ns (λ (n : ℕ). first_row k + n)) (good_short k ns g)
 
 module _ (k : Kind) (ns : List ℕ) (g : good_list k ns ≡ true) where
-  pub rows_list : (l : ArrayVec ℕ) → l.items ≡ [] → (r : ArrayVec ℕ) → r ≡ joined l (rows k ns) → r ≡ row_list (rows k ns)
+  pub rows_list : (l : Items) → l.items ≡ [] → (r : Items) → r ≡ joined l (rows k ns) → r ≡ row_list (rows k ns)
   rows_list l e r q =
       let m : length {A = ℕ} [] + length (rows k ns) ≤ most_own = let h = rows_short k ns g in omega arith in
       q ∙ ap (λ xs. joined (row_list xs) (rows k ns)) e ∙ joined_list [] (rows k ns) m
 
-  pub rows_after : (k' : Kind) (ns' : List ℕ) → good_list k' ns' ≡ true → (l : ArrayVec ℕ) → l ≡ row_list (rows k ns) → (r : ArrayVec ℕ)
+  pub rows_after : (k' : Kind) (ns' : List ℕ) → good_list k' ns' ≡ true → (l : Items) → l ≡ row_list (rows k ns) → (r : Items)
       → r ≡ joined l (rows k' ns') → r ≡ row_list (rows k ns ++ rows k' ns')
   rows_after k' ns' g' l e r q =
       let m : length (rows k ns) + length (rows k' ns') ≤ most_own = let h = rows_short k ns g in let h' = rows_short k' ns' g' in omega arith in
@@ -88,7 +88,7 @@ module _ (k : Kind) (ns : List ℕ) (g : good_list k ns ≡ true) where
 
 module _ (t : Tables) (v : valid t ≡ true) where
   -- a server's lists, as they are lent
-  module _ (l : ArrayVec ℕ) (made : l ≡ certified (row_list []) t.key t.key_ids t.cert_kinds t.cert_ids) (xs : List ℕ) (lent : xs ≡ shown l) where
+  module _ (l : Items) (made : l ≡ certified (row_list []) t.key t.key_ids t.cert_kinds t.cert_ids) (xs : List ℕ) (lent : xs ≡ shown l) where
     pub certs_lent : xs ≡ certificates [] t.key t.key_ids t.cert_kinds t.cert_ids
     certs_lent =
         let m : length (certificates [] t.key t.key_ids t.cert_kinds t.cert_ids) ≤ most_own =
@@ -98,7 +98,7 @@ module _ (t : Tables) (v : valid t ≡ true) where
     pub certs_good : good_list Certificate xs ≡ true
     certs_good = rw certs_lent (good_certificates t.key t.key_ids t.cert_kinds t.cert_ids (valid_parts t v).key)
 
-  module _ (h : ArrayVec ℕ) (made : h ≡ joined (row_list []) (held t.key_kinds t.key)) (ys : List ℕ) (lent : ys ≡ shown h) where
+  module _ (h : Items) (made : h ≡ joined (row_list []) (held t.key_kinds t.key)) (ys : List ℕ) (lent : ys ≡ shown h) where
     pub keys_lent : ys ≡ held t.key_kinds t.key
     keys_lent =
         let m : length {A = ℕ} [] + length (held t.key_kinds t.key) ≤ most_own =
@@ -109,7 +109,7 @@ module _ (t : Tables) (v : valid t ≡ true) where
     keys_good = rw keys_lent (good_held Key t.key_kinds t.key (valid_parts t v).key)
 
   -- the key list of each side
-  module _ (r : ArrayVec ℕ) where
+  module _ (r : Items) where
     pub client_list : t.side ≡ Client → r ≡ row_list (rows Certificate t.certificate ++ rows Key t.key) → r ≡ row_list (key_list_rows t)
     unfolding keys_of
     client_list s e = rw s e
@@ -125,7 +125,7 @@ module _ (t : Tables) where
   unfolding own_of
   own_refused h = rw h
 
-  pub own_made : valid t ≡ true → (a b c d e f : ArrayVec ℕ) → a ≡ row_list (rows Kex (without (extensions (other t.side)) t.kex))
+  pub own_made : valid t ≡ true → (a b c d e f : Items) → a ≡ row_list (rows Kex (without (extensions (other t.side)) t.kex))
       → b ≡ row_list (rows Kex (without (extensions Client ++ extensions Server) t.kex))
       → c ≡ row_list (key_list_rows t)
       → d ≡ row_list (rows Cipher t.cipher)

@@ -1,6 +1,8 @@
 -- The lists that a side writes into its KEXINIT and chooses from, as rows of the name table and as names (document 01,
 -- "KEXINIT"; src/negotiation.rs).
-use Rattle.std.specs.Prelude.{List, [], ◌∷◌, ◌++◌, map, ℕ, ◌+◌}
+use Rattle.std.specs.Prelude.{List, [], ◌∷◌, ◌++◌, map, ℕ, ◌+◌, Result, Ok, Err}
+use Rattle.answer.specs.declared.Cause.{Cause}
+use Rattle.answer.specs.Refusal.{number}
 use Rattle.answer.specs.Answer.{Out, done, refuse, pick}
 use Rattle.names.specs.Tables.{first_row}
 use Rattle.names.specs.declared.Kind.{Kind}
@@ -65,3 +67,20 @@ lists_of t =
 -- tables that are not valid are refused with 9: "A refusal returns its number and nothing else."
 unfoldable pub own_of : Tables → Out Own
 own_of t = pick (valid t) (done (lists_of t)) (refuse 9)
+
+-- lists that nothing was put into
+abbrev pub no_lists : Own
+no_lists =
+    record {
+      kex_written = row_list [];
+      kex_chosen = row_list [];
+      key = row_list [];
+      cipher = row_list [];
+      mac = row_list [];
+      compression = row_list [];
+    }
+
+-- what it means that lists were filled, or not
+abbrev pub filled_own : Own → Result (Unit {0}) Cause → Out Own
+filled_own own (Ok u) = done own
+filled_own own (Err c) = refuse (number c)

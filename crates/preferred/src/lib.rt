@@ -8,12 +8,15 @@
 pub mod defaults;
 mod make;
 
+ghost use Rattle.std.specs.Prelude.{◌≡◌};
+ghost use Rattle.preferred.specs.Own.{no_lists};
+
 pub use defaults::{default_lists, default_tables};
 use filters::RowList;
-pub use make::own_lists;
+pub use make::{fill_lists, own_lists};
 
 // A side's own lists, made of tables that were judged.
-#[derive(Clone, Debug, Drop)]
+#[derive(Clone, Copy, Debug)]
 pub struct Own {
     pub kex_written: RowList,
     pub kex_chosen: RowList,
@@ -21,4 +24,20 @@ pub struct Own {
     pub cipher: RowList,
     pub mac: RowList,
     pub compression: RowList,
+}
+
+impl Own {
+    // Nothing is in any of them.
+    pub fn new() -> Own
+        ensures { result ≡ no_lists }
+    {
+        Own {
+            kex_written: RowList::new(),
+            kex_chosen: RowList::new(),
+            key: RowList::new(),
+            cipher: RowList::new(),
+            mac: RowList::new(),
+            compression: RowList::new(),
+        }
+    }
 }

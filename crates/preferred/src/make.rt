@@ -2,14 +2,14 @@
 //
 // Copyright 2016 Pierre-Étienne Meunier, licensed under the Apache License, Version 2.0 (NOTICE); changed: rewritten for
 // lent slices and tables of numbers.
-ghost use Rattle.std.specs.Prelude.{◌≡◌, true, ◌++◌, ◌+◌, ◌<◌, length};
+ghost use Rattle.std.specs.Prelude.{◌≡◌, true, ◌++◌, ◌+◌, ◌<◌, length, OnErr};
 ghost use Rattle.answer.specs.Answer.{answered};
 ghost use Rattle.names.specs.Tables.{names_of, first_row};
 ghost use Rattle.names.specs.declared.Kind.TheVariants.{Kex, Key, Certificate};
 ghost use Rattle.judging.specs.Tables.{lent, good_list, valid};
 ghost use Rattle.filters.specs.Picked.{without};
 ghost use Rattle.filters.specs.Made.{row_list, joined};
-ghost use Rattle.preferred.specs.Own.{rows, key_list_rows, own_of, extensions, other};
+ghost use Rattle.preferred.specs.Own.{rows, key_list_rows, own_of, filled_own, extensions, other};
 
 use super::Own;
 use answer::Cause;
@@ -99,19 +99,30 @@ fn key_rows(tables: &Tables) -> RowList
     }
 }
 
-// The lists of tables that are valid, or 9.
-pub fn own_lists(tables: &Tables) -> Result<Own, Cause>
-    ensures { answered result ≡ own_of (lent tables.now) }
+// The lists of tables that are valid, put where `own` is, or 9, and it is what it was.
+// Kept: list by list to where they stand, and not handed over whole, since six lists are moved by a call of memcpy, and the
+// library for C needs none from outside.
+pub fn fill_lists(tables: &Tables, own: &mut Own) -> Result<(), Cause>
+    ensures lists { filled_own own.new result ≡ own_of (lent tables.now) }
+    ensures kept { OnErr result (own.new ≡ own.old) }
 {
     if !tables.valid() {
         return Err(Cause::BadTable);
     }
-    Ok(Own {
-        kex_written: kex_rows(&others_names(tables.side), tables.kex),
-        kex_chosen: kex_rows(&EXTENSIONS, tables.kex),
-        key: key_rows(tables),
-        cipher: all_rows(Kind::Cipher, tables.cipher),
-        mac: all_rows(Kind::Mac, tables.mac),
-        compression: all_rows(Kind::Compression, tables.compression),
-    })
+    own.kex_written = kex_rows(&others_names(tables.side), tables.kex);
+    own.kex_chosen = kex_rows(&EXTENSIONS, tables.kex);
+    own.key = key_rows(tables);
+    own.cipher = all_rows(Kind::Cipher, tables.cipher);
+    own.mac = all_rows(Kind::Mac, tables.mac);
+    own.compression = all_rows(Kind::Compression, tables.compression);
+    Ok(())
+}
+
+// The same, handed over.
+pub fn own_lists(tables: &Tables) -> Result<Own, Cause>
+    ensures { answered result ≡ own_of (lent tables.now) }
+{
+    let mut own = Own::new();
+    fill_lists(tables, &mut own)?;
+    Ok(own)
 }

@@ -1,20 +1,19 @@
 -- From what the code of a put tells on its way to an answer to what its contract says of that answer: a law for each, whose
 -- premises are a test's outcome and what a callee ensures, and `code`, all of them. Assumes nothing.
 use mathlib.Core.Path.{◌≡◌, refl, sym, ◌∙◌}
-use mathlib.Core.List.{List, [], ◌∷◌, ◌++◌, append_assoc}
+use mathlib.Core.List.{List, ◌++◌}
 use mathlib.Core.Bool.{Bool, true, false}
 use Prim.Native.Nat.{ℕ, ◌+◌, ◌-◌, ◌/◌, ◌%◌, ◌≤◌, ◌<◌}
+use native.Mathlib.Numerals.{add-one, add-two, add-three}
 use native.Mathlib.Omega.{arith}
-use borrow.Rule.Slice.PartMut.{put_mid, Post-is}
 use borrow.Author.Tests.{lt-ltb, le-ltb, ltb-true, ltb-false}
 use lib.Dec.{ltb}
-use lib.ListN.{length, take, drop, length-append}
-use lib.Seq.{sets, sets-eq}
-use Rattle.answer.specs.Refusal.{Refusal}
-use Rattle.answer.specs.Answer.{Out, refused, done, ◌>>=◌, refuse}
-use Rattle.answer.proofs.Laws.{split, un_done, not_both}
+use lib.ListN.{length, take, get_or, set, length-append}
+use lib.Seq.{sets, take-suc, length-take-le}
+use Rattle.answer.specs.Answer.{done, ◌>>=◌, refuse}
+use Rattle.answer.proofs.Laws.{split}
 use Rattle.put.specs.Written.{written, buffer, word, string}
-use Rattle.put.proofs.PutLaws.{written_fits, written_full, buffer_fits, buffer_full, both, both_written, word_length, string_short, string_long}
+use Rattle.put.proofs.PutLaws.{sets_append, written_fits, written_full, buffer_fits, buffer_full, word_length, string_short, string_long}
 
 -- a test by a difference is the test by the sum
 pub by_difference : (len at need : ℕ) → at ≤ len → ltb (len - at) need ≡ ltb len (at + need)
@@ -27,17 +26,19 @@ by_difference len at need h =
 pub past : (len at need : ℕ) → len < at → true ≡ ltb len (at + need)
 past len at need h = sym (lt-ltb len (at + need) (omega arith))
 
--- a copy is the run of stores
-pub pasted : (d x y : List ℕ) (at : ℕ) → y ≡ x → at + length x ≤ length d → put_mid at (at + length x - at) d y ≡ sets d at x
-pasted d x y at e h = rw (e, Post-is at (at + length x) d (omega arith)) (sym (sets-eq x d at h ∙ append_assoc (take at d) x (drop (at + length x) d)))
+-- one turn of the copy
+pub copied : (d out x : List ℕ) (at j : ℕ) → j < length x → out ≡ sets d at (take j x)
+    → set out (at + j) (get_or x j 0) ≡ sets d at (take (j + 1) x)
+copied d out x at j h e =
+    let le : j ≤ length x = omega arith in
+    rw (e, add-one, take-suc x j 0, sets_append, length-take-le j x)
 
--- a uint32 as the code cuts it
-pub big_endian_word : (n : ℕ) → n / 16777216 % 256 ∷ n / 65536 % 256 ∷ n / 256 % 256 ∷ n % 256 ∷ [] ≡ word n
+-- the four stores of a uint32
+pub stored_word : (d : List ℕ) (at n : ℕ)
+    → set (set (set (set d at (n / 256 / 256 / 256 % 256)) (at + 1) (n / 256 / 256 % 256)) (at + 2) (n / 256 % 256)) (at + 3) (n % 256)
+    ≡ sets d at (word n)
 unfolding word
-big_endian_word n =
-    let a : n / 16777216 ≡ n / 256 / 256 / 256 = omega arith in
-    let b : n / 65536 ≡ n / 256 / 256 = omega arith in
-    rw (a, b)
+stored_word d at n = simp (add-one, add-two, add-three)
 
 -- the room that there is where `lacks` said no
 pub room : (out : List ℕ) (at n : ℕ) (full : Bool) → full ≡ ltb (length out) (at + n) → full ≡ false → at + n ≤ length out
@@ -63,6 +64,10 @@ module _ (out x : List ℕ) (at n : ℕ) (full : Bool) (told : full ≡ ltb (len
   pub stored : (out' : List ℕ) → full ≡ false → out' ≡ sets out at x → out' ≡ buffer out at (done x)
   stored out' e k = rw (k, buffer_fits out at x (within e))
 
+-- the n of a uint32
+pub four : (n : ℕ) → 4 ≡ length (word n)
+four n = sym (word_length n)
+
 -- a string that is too long: refused and not changed
 module _ (out x : List ℕ) (at : ℕ) (long : 4294967295 < length x) where
   pub too_long : refuse 1 ≡ written out at (string x)
@@ -77,7 +82,7 @@ module _ (out x : List ℕ) (at : ℕ) (long : 4294967295 < length x) where
 string_size : (x : List ℕ) → 4 + length x ≡ length (word (length x) ++ x)
 string_size x = rw (length-append, word_length)
 
--- the ends for any other string: its length is put first, and its bytes from where that ended
+-- the four ends for any other string: its length is stored first, and its bytes from `body` on
 module _ (out x : List ℕ) (at : ℕ) (full : Bool) (short : length x ≤ 4294967295) (told : full ≡ ltb (length out) (at + (4 + length x))) where
   pub string_no_room : full ≡ true → refuse 8 ≡ written out at (string x)
   string_no_room e = rw (string_short x short) (no_room out (word (length x) ++ x) at (4 + length x) full told (string_size x) e)
@@ -85,25 +90,14 @@ module _ (out x : List ℕ) (at : ℕ) (full : Bool) (short : length x ≤ 42949
   pub string_kept : full ≡ true → out ≡ buffer out at (string x)
   string_kept e = rw (string_short x short) (not_changed out (word (length x) ++ x) at (4 + length x) full told (string_size x) e)
 
-  module _ (fits : full ≡ false) where
-    room_for_all : at + length (word (length x) ++ x) ≤ length out
-    room_for_all = rw (← (string_size x)) (room out at (4 + length x) full told fits)
+  pub string_next : (body m : ℕ) → full ≡ false → body ≡ at + 4 → m ≡ body + length x → done m ≡ written out at (string x)
+  string_next body m e h k = rw (string_short x short) (next out (word (length x) ++ x) at (4 + length x) full told (string_size x) m e (omega arith))
 
-    ended : written out at (done (word (length x))) ≡ done (at + 4)
-    ended =
-        let h = room out at (4 + length x) full told fits in
-        rw (← (word_length (length x))) (written_fits out at (word (length x)) (rw word_length (omega arith)))
+  pub string_stored : (out₁ out₂ : List ℕ) (body : ℕ) → full ≡ false → out₁ ≡ sets out at (word (length x)) → body ≡ at + 4
+      → out₂ ≡ sets out₁ body x → out₂ ≡ buffer out at (string x)
+  string_stored out₁ out₂ body e f h k =
+      rw (string_short x short)
+      (stored out (word (length x) ++ x) at (4 + length x) full told (string_size x) out₂ e
+      (rw (sets_append, word_length, ← h, ← f) k))
 
-    pub length_put : {r : Refusal} → refused r ≡ written out at (done (word (length x))) → ⊥
-    length_put e = not_both (sym (e ∙ ended))
-
-    pub string_put : (body : ℕ) (out₁ : List ℕ) → done body ≡ written out at (done (word (length x)))
-        → out₁ ≡ buffer out at (done (word (length x)))
-        → (p : Out ℕ) (out₂ : List ℕ) → p ≡ written out₁ body (done x) → out₂ ≡ buffer out₁ body (done x)
-        → (p ≡ written out at (string x)) × (out₂ ≡ buffer out at (string x))
-    string_put body out₁ e f p out₂ g h =
-        let b : body ≡ at + length (word (length x)) = rw word_length (un_done (e ∙ ended)) in
-        rw (g, h, f, b, string_short x short)
-        (both_written out at (word (length x)) x, both out at (word (length x)) x room_for_all)
-
-pub ruleset code = (refl, no_room, not_changed, next, stored, too_long, too_long_kept, string_no_room, string_kept)
+pub ruleset code = (refl, no_room, not_changed, next, stored, four, too_long, too_long_kept, string_no_room, string_kept, string_next, string_stored)

@@ -67,15 +67,21 @@ fn unread(to: &mut impl Write, number: u64, report: &mut Report) -> io::Result<(
     writeln!(to, "line {number} cannot be read")
 }
 
-// A line that starts with `#` says what follows.
-fn judge(to: &mut impl Write, line: &[u8], number: u64, report: &mut Report) -> io::Result<()> {
+// A line that starts with `#` says what follows. What our code writes of a line stands in front of `out`, whatever a line
+// before it left there.
+fn judge(
+    to: &mut impl Write,
+    line: &[u8],
+    number: u64,
+    out: &mut [u8],
+    report: &mut Report,
+) -> io::Result<()> {
     if line.starts_with(b"#") {
         return Ok(());
     }
     let mut space = room();
-    let mut out = room();
     spread(line, &mut space);
-    let Some((function, answer, recorded)) = answered(line, &space, &mut out) else {
+    let Some((function, answer, recorded)) = answered(line, &space, out) else {
         return unread(to, number, report);
     };
     report.count(function, &answer);
@@ -103,6 +109,7 @@ fn line_at(
     file: &File,
     offset: u64,
     number: u64,
+    out: &mut [u8],
     report: &mut Report,
 ) -> io::Result<Option<u64>> {
     let mut piece = [0u8; PIECE];
@@ -114,15 +121,16 @@ fn line_at(
         }
         return Ok(None);
     };
-    judge(to, front(read, end), number, report)?;
+    judge(to, front(read, end), number, out, report)?;
     Ok(offset.checked_add(end as u64 + 1))
 }
 
 // Nothing says that a file ends, so the lines are counted.
 fn replay(to: &mut impl Write, file: &File, report: &mut Report) -> io::Result<()> {
+    let mut out = room();
     let mut offset: u64 = 0;
     for number in 1..u64::MAX {
-        match line_at(to, file, offset, number, report)? {
+        match line_at(to, file, offset, number, &mut out, report)? {
             Some(next) => offset = next,
             None => return Ok(()),
         }

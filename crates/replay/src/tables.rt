@@ -1,4 +1,6 @@
 // A side's tables as a line has them: the side, then ten lists in the order of the fields of `judging::Tables`.
+ghost use Rattle.std.specs.Prelude.{◌≤◌, length};
+
 use crate::reader::Reader;
 use choice::Side;
 use judging::Tables;
@@ -44,7 +46,9 @@ fn rows(p: Place) -> bool {
 }
 
 // As many as stand there, or have room.
-fn identities<'a>(s: &[u8], ids: &'a mut [u32]) -> &'a [u32] {
+fn identities<'a>(s: &[u8], ids: &'a mut [u32]) -> &'a [u32]
+    ensures within { length result.now ≤ length ids.old }
+{
     let mut c = Cursor { at: 0 };
     for n in 0..ids.len() {
         let Ok((id, next)) = c.u32(s) else {

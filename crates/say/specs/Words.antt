@@ -1,6 +1,10 @@
 -- A settled record as numbers and as words.
-use Rattle.std.specs.Prelude.{Bool, true, false, List, [], ◌∷◌, ◌++◌, ℕ}
+use Rattle.std.specs.Prelude.{Bool, true, false, List, [], ◌∷◌, ◌++◌, ℕ, take, replicate}
+use Rattle.std.specs.Fmt.{decimal}
+use Rattle.answer.specs.declared.Refusal.{Refusal}
+use Rattle.answer.specs.Refusal.{number}
 use Rattle.answer.specs.Answer.{Out, done, pick}
+use Rattle.put.specs.Runs.{ended, filled}
 use Rattle.text.specs.Literal.{bytes}
 use Rattle.names.specs.Spelled.{spelled}
 use Rattle.names.specs.declared.Kind.{Kind}
@@ -63,3 +67,14 @@ flag_items before flags =
 -- the whole record, put piece by piece: a piece without room is left out
 unfoldable pub words : List ℕ → Names → List (Out (List ℕ))
 words before n = algorithms before n ++ (directions before n ++ flag_items before n.flags)
+
+-- the record as it is printed: what is put of it in a room of 1,024 bytes
+abbrev pub room : List ℕ
+room = replicate 1024 0
+
+abbrev pub settled_text : List ℕ → Names → List ℕ
+settled_text before n = take (ended room 0 (words before n)) (filled room 0 (words before n))
+
+-- a reader's refusal as it is printed: its number, and where
+abbrev pub refusal_text : Refusal → List ℕ
+refusal_text r = decimal (number r.cause) ++ (bytes " at byte " ++ decimal r.offset)

@@ -1,12 +1,12 @@
 // What the programs share: what was settled, in words and in numbers, and a refusal in words.
 #![tactic(auto)]
 
-ghost use Rattle.std.specs.Prelude.{[], ◌∷◌, ◌≡◌};
+ghost use Rattle.std.specs.Prelude.{[], ◌∷◌, ◌≡◌, Some};
 ghost use Rattle.answer.specs.Answer.{done};
 ghost use Rattle.names.specs.Spelled.{spelled};
 ghost use Rattle.put.specs.Runs.{ended, filled};
 ghost use Rattle.put.proofs.RunLaws.{Ran};
-ghost use Rattle.say.specs.Words.{numbers_of, key_kind, item, yes_or_no, flag_item, words};
+ghost use Rattle.say.specs.Words.{numbers_of, key_kind, item, yes_or_no, flag_item, words, settled_text, refusal_text};
 
 use answer::Refusal;
 use names::{Kind, put_name};
@@ -20,6 +20,8 @@ use text::front;
 pub struct Told(pub Refusal);
 
 impl fmt::Display for Told {
+    ghost output = { λ t. Some (refusal_text t.0) };
+
     fn fmt<W: fmt::Write>(&self, f: &mut fmt::Formatter<W>) -> fmt::Result {
         write!(f, "{} at byte {}", self.0.cause.number(), self.0.offset)
     }
@@ -128,6 +130,8 @@ pub fn put_settled(n: Names, before: &[u8], out: &mut [u8]) -> usize
 pub struct Settled<'a>(pub Names, pub &'a [u8]);
 
 impl fmt::Display for Settled<'_> {
+    ghost output = { λ s. Some (settled_text s.1.now s.0) };
+
     fn fmt<W: fmt::Write>(&self, f: &mut fmt::Formatter<W>) -> fmt::Result {
         let mut text = [0u8; 1024];
         let end = put_settled(self.0, self.1, &mut text);

@@ -30,7 +30,7 @@ use wire::Cursor;
 // What a KEXINIT is read with: the columns of the names, the side and its own lists, rows of the columns, and the payload.
 #[derive(Clone, Copy, Debug, PartialEq, Eq)]
 pub struct Reading<'a> {
-    pub names: Columns<'a>,
+    pub names: Columns<'a, 'a>,
     pub side: Side,
     pub kex: &'a [u8],
     pub key: &'a [u8],

@@ -1,5 +1,12 @@
-use Rattle.put.proofs.CodeLaws.{big_endian_word}
+-- Each answer by the law of its end; where `lacks` said no, there is the room that the stores ask for. Assumes nothing.
+use Rattle.put.proofs.CodeLaws.{code, room}
 use Rattle.put.proofs.put_u32.Goals as goal
 
+pub returns-then-lacks : goal.returns-then-lacks
+returns-then-lacks c = search code
+
+pub store_u32-requires : goal.store_u32-requires
+store_u32-requires c = search room
+
 pub returns : goal.returns
-returns c = rw (← (big_endian_word c.args.v), ← c.to_be_bytes.ensures) c.put_bytes.ensures
+returns c = search code
